@@ -1,0 +1,3 @@
+pub mod Leaves
+pub mod AlphaFormat
+pub mod Sv39Format

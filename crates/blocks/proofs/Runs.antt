@@ -1,9 +1,9 @@
-use Rattle.std.proofs.Common.{◌≡◌, ℕ, zero, suc, ◌+◌, ◌-◌, ◌*◌, ◌/◌, ◌%◌, ◌^◌, ◌<◌, ◌≤◌, Bool, true, false, eqb, ◌⊎◌, List, length, get_or, set, sym, refl, ap, ◌∙◌, subst, ⊎_elim, mul-le-mul_right, mod-lt, mul_assoc, suc-mul, arith, pow_mono, shl_lt, shl_exact}
+use Rattle.std.proofs.Common.{◌≡◌, ℕ, suc, ◌+◌, ◌-◌, ◌*◌, ◌/◌, ◌%◌, ◌^◌, ◌<◌, ◌≤◌, true, false, List, length, get_or, set, sym, refl, ap, ◌∙◌, subst, ⊎_elim, mul-le-mul_right, mod-lt, mul_assoc, suc-mul, arith, pow_mono, shl_lt, shl_exact}
 use native.Mathlib.Nat.{div-eq_of_lt, div-eq_of_eq-mul_left}
 use lib.Bits.{bit_and, bit_or, bit_xor}
-use lib.Pow.{ones_split, ones_lt, high, mod-pow-add, mod-mod-pow, pow-lt}
-use Rattle.std.proofs.lemmas.Nat.{pow_pos, pow-add, one_shl, shr-shr, shl-shr, shr_below}
-use Rattle.std.proofs.lemmas.Bool.{cases_eq, cases_lt, eq-eqb, ne_eqb}
+use lib.Pow.{ones_split, ones_lt, high, mod-pow-add, mod-mod-pow}
+use Rattle.std.proofs.lemmas.Nat.{pow_pos, pow-add, one_shl, shr-shr, shl-shr}
+use Rattle.std.proofs.lemmas.Bool.{cases_eq, eq-eqb, ne_eqb}
 use Rattle.blocks.specs.Bit.{digit, bit}
 use Rattle.blocks.proofs.Digits.{digit_or, digit_and, digit_xor, write_same, write_other}
 

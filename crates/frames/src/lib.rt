@@ -1,4 +1,6 @@
 // Where frames come from: the frame-source trait and its sources.
+#![tactic(auto)]
+
 pub mod boot_list;
 pub mod buddy;
 mod indexed;

@@ -1,4 +1,6 @@
 // The memory manager: objects of pages on frames, placed so that superpages can cover them.
+#![tactic(auto)]
+
 pub mod arguments;
 pub mod brought;
 pub mod chosen;

@@ -1,4 +1,6 @@
 // What the processor's tables map: leaves, the mapping-hardware trait and the boards that implement it.
+#![tactic(auto)]
+
 pub mod alpha;
 pub mod client;
 mod fit;

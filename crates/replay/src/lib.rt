@@ -1,4 +1,6 @@
 // The replay of a trace: its records, the machine that serves them, and the lines of the listing.
+#![tactic(auto)]
+
 pub mod fault;
 pub mod line;
 pub mod lines;

@@ -1,4 +1,4 @@
-use Rattle.std.proofs.Common.{◌≡◌, ◌+◌, sym, ap, ◌∙◌, arith}
+use Rattle.std.proofs.Common.{◌+◌, sym, ap, ◌∙◌, arith}
 use Rattle.std.proofs.lemmas.List.{take_all}
 use Rattle.blocks.specs.Bit.{bits_set}
 use Rattle.blocks.proofs.Counts.{set_none, set_more, set_part}
@@ -13,7 +13,7 @@ loop-word-preserved c =
     let i = c.loop-word.invariant h in
     let m = set_more c.args.words.now c.loop-word.word-index c.loop-word-test.true in
     let p = set_part c.args.words.now (c.loop-word.word-index + 1) in
-    let s = c.saturating-add-n.ensures in
+    let s = c.saturating_add-n.ensures in
     omega (arith, i, m, p, s)
 
 pub returns : goal.returns

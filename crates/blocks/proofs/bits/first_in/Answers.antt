@@ -2,15 +2,14 @@ use Rattle.std.proofs.Common.{◌≡◌, ℕ, ◌+◌, ◌-◌, ◌*◌, ◌/◌
 use lib.Count.{count_trailing_zeros}
 use Rattle.std.proofs.lemmas.Nat.{shr_below}
 use Rattle.std.proofs.lemmas.Bool.{cases_lt}
-use Rattle.blocks.specs.Bit.{bit}
 use Rattle.blocks.proofs.Digits.{first_none, found, found_whole, trailing_found, bit_past}
 use Rattle.blocks.proofs.bits.first_in.Goals as goal
 
 pub returns-then-first-words : goal.returns-then-first-words
 returns-then-first-words c = λ j a b. bit_past c.args.words.now j (omega arith)
 
-pub overflow-add-at : goal.overflow-add-at
-overflow-add-at c =
+pub overflow_add-at : goal.overflow_add-at
+overflow_add-at c =
     let s : ℕ = c.args.from % 64 in
     let v : ℕ = get_or c.args.words.now (c.args.from / 64) 0 in
     let q : 64 ≡ 64 - c.args.from % 64 + c.args.from % 64 = omega arith in

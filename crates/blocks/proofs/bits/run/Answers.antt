@@ -1,13 +1,13 @@
-use Rattle.std.proofs.Common.{ℕ, ◌+◌, ◌*◌, ◌%◌, ◌^◌, ◌<◌, ◌≤◌, arith}
+use Rattle.std.proofs.Common.{ℕ, ◌%◌, ◌^◌, ◌<◌, arith}
 use Rattle.std.proofs.lemmas.Nat.{pow_pos, one_shl}
 use Rattle.blocks.proofs.Runs.{run_in, run_low, run_high, run_is, counted}
 use Rattle.blocks.proofs.bits.run.Goals as goal
 
-pub overflow-shl-result-2 : goal.overflow-shl-result-2
-overflow-shl-result-2 c = let k = counted c.args.order c.requires.0 in omega (arith, k.0, k.1)
+pub overflow_shl-result-2 : goal.overflow_shl-result-2
+overflow_shl-result-2 c = let k = counted c.args.order c.requires.0 in omega (arith, k.0, k.1)
 
-pub overflow-sub-result : goal.overflow-sub-result
-overflow-sub-result c =
+pub overflow_sub-result : goal.overflow_sub-result
+overflow_sub-result c =
     let k = counted c.args.order c.requires.0 in
     let l : 2 ^ c.args.order < 64 = omega (arith, k.1) in
     rw (k.0, one_shl (2 ^ c.args.order) 64 l) (pow_pos (2 ^ c.args.order))

@@ -9,30 +9,30 @@ unreachable-requires g c =
     let m = g.S.FrameSource.means in
     let e : m c.take-counted-2.new.source ≡ m c.take-counted.new.source = takes_none (m c.take-counted.new.source) c.args.other (m c.take-counted-2.new.source) c.in-Err.e c.in-Err.ensures.takes in
     back (m c.args.source.now) c.args.one (m c.take-counted.new.source) (m c.give-counted.new.source)
-    c.in-ok-first.first c.in-Err-give-counted.field-0 (g.met.S.FrameSource.lawful c.args.source.now) c.in-ok-first.ensures.takes
-    (subst (λ (t : Source). Gives t c.in-ok-first.first (m c.give-counted.new.source) (Err c.in-Err-give-counted.field-0)) e c.in-Err-give-counted.ensures.gives)
+    c.in_ok-first.first c.in-Err-give-counted.field-0 (g.met.S.FrameSource.lawful c.args.source.now) c.in_ok-first.ensures.takes
+    (subst (λ (t : Source). Gives t c.in_ok-first.first (m c.give-counted.new.source) (Err c.in-Err-give-counted.field-0)) e c.in-Err-give-counted.ensures.gives)
 
 pub returns-in-Ok : goal.returns-in-Ok
 returns-in-Ok g c =
     let m = g.S.FrameSource.means in
     let s = m c.args.source.now in
     let t = m c.take-counted.new.source in
-    let x = c.in-ok-first.ensures.takes in
+    let x = c.in_ok-first.ensures.takes in
     let y = c.in-Ok.ensures.takes in
     let p = ap (λ (n : ℕ). 2 ^ n) x.order in
     let z = took_free t c.args.other (m c.take-counted-2.new.source) c.in-Ok.second y in
     record {
       first = x.order;
       second = y.order;
-      first_free = took_free s c.args.one t c.in-ok-first.first x;
-      second_free = λ f b. took_fewer s c.args.one t c.in-ok-first.first.block.first c.in-ok-first.first.block.order x f (z f b);
+      first_free = took_free s c.args.one t c.in_ok-first.first x;
+      second_free = λ f b. took_fewer s c.args.one t c.in_ok-first.first.block.first c.in_ok-first.first.block.order x f (z f b);
       apart = λ f a b. both_ways (t.free f) (x.free.was f a.0 (omega (arith, a.1, p))) (z f b);
     }
 
 pub returns-in-Ok-give-counted : goal.returns-in-Ok-give-counted
 returns-in-Ok-give-counted g c =
     let m = g.S.FrameSource.means in
-    let b = c.in-ok-first.first in
+    let b = c.in_ok-first.first in
     let e = takes_none (m c.take-counted.new.source) c.args.other (m c.take-counted-2.new.source) c.in-Err.e c.in-Err.ensures.takes in
-    took_back (m c.args.source.now) c.args.one (m c.take-counted.new.source) (m c.give-counted.new.source) b c.in-ok-first.ensures.takes
+    took_back (m c.args.source.now) c.args.one (m c.take-counted.new.source) (m c.give-counted.new.source) b c.in_ok-first.ensures.takes
     (subst (λ (t : Source). Gave t b.block.first b.block.order (m c.give-counted.new.source)) e c.in-Ok-give-counted.ensures.gives)

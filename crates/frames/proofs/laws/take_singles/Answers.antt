@@ -11,8 +11,8 @@ pub loop-frame-init : goal.loop-frame-init
 loop-frame-init g c =
     (nothing_taken _ _ c.requires.1, omega arith, sym (tally_none (bit c.args.taken.now) _ (λ f l. c.requires.1 f)))
 
-pub overflow-add-count : goal.overflow-add-count
-overflow-add-count g c =
+pub overflow_add-count : goal.overflow_add-count
+overflow_add-count g c =
     let m = g.S.FrameSource.means c.args.source.now in
     let l = g.met.S.FrameSource.lawful c.args.source.now in
     let e = c.loop-frame.invariant.1 in
@@ -45,7 +45,7 @@ pub returns : goal.returns
 returns g c =
     let m = g.S.FrameSource.means in
     let i = c.loop-frame.invariant in
-    let d = c.in-default.ensures in
+    let d = c.in_default.ensures in
     let e : m c.take-single.new.source ≡ m c.loop-frame.source = d.1 in
     let z : (m c.take-single.new.source).avail ≡ (m c.loop-frame.source).avail = ap (λ (s : Source). s.avail) e in
     record {

@@ -3,13 +3,13 @@ use Rattle.std.proofs.lemmas.Bool.{cases_lt}
 use Rattle.mapping.proofs.Clearing.{gone, past, low_order, count, first_has}
 use Rattle.mapping.proofs.client.clear_object.Goals as goal
 
-pub overflow-shl-page : goal.overflow-shl-page
-overflow-shl-page g c =
+pub overflow_shl-page : goal.overflow_shl-page
+overflow_shl-page g c =
     let w = g.met.H.MappingHardware.lawful c.loop-page.hardware c.args.object c.loop-page.page c.in-Some.leaf (sym c.in-Some.ensures) in
     omega (arith, low_order _ g.met.H.MappingHardware.falling _ _ _ _ w)
 
-pub overflow-add-page : goal.overflow-add-page
-overflow-add-page g c =
+pub overflow_add-page : goal.overflow_add-page
+overflow_add-page g c =
     let w = g.met.H.MappingHardware.lawful c.loop-page.hardware c.args.object c.loop-page.page c.in-Some.leaf (sym c.in-Some.ensures) in
     omega (arith, w.within, count _ g.met.H.MappingHardware.falling _ _ _ _ w)
 

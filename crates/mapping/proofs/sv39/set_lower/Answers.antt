@@ -18,11 +18,11 @@ among xs n i a b =
     let h = count_has (λ d. get_or xs (8 + n * 512 + d) 0) 512 (i - (8 + n * 512)) (omega arith) in
     omega (arith, h, ap (λ j. one (get_or xs j 0)) e)
 
-pub overflow-add-count : goal.overflow-add-count
-overflow-add-count c = omega (arith, few (vec_items c.args.table.now) c.args.n, c.requires.counted, c.leaf-count.ensures, one_small c.args.entry)
+pub overflow_add-count : goal.overflow_add-count
+overflow_add-count c = omega (arith, few (vec_items c.args.table.now) c.args.n, c.requires.counted, c.leaf-count.ensures, one_small c.args.entry)
 
-pub overflow-sub-count : goal.overflow-sub-count
-overflow-sub-count c =
+pub overflow_sub-count : goal.overflow_sub-count
+overflow_sub-count c =
     let a = among (vec_items c.args.table.now) c.args.n c.args.place c.requires.on.0 c.requires.on.1 in
     omega (arith, a, c.requires.counted, c.leaf-count-2.ensures, ap one c.read-old.ensures)
 

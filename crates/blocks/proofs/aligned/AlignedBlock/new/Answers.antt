@@ -1,15 +1,15 @@
-use Rattle.std.proofs.Common.{◌≡◌, ℕ, ◌+◌, ◌*◌, ◌%◌, ◌^◌, ◌<◌, ◌≤◌, refl, subst, arith, pow_mono}
+use Rattle.std.proofs.Common.{◌≡◌, ℕ, ◌*◌, ◌%◌, ◌^◌, ◌≤◌, subst, arith, pow_mono}
 use Rattle.std.proofs.lemmas.Nat.{one_shl}
 use Rattle.blocks.proofs.aligned.AlignedBlock.new.Goals as goal
 
-pub overflow-sub-count : goal.overflow-sub-count
-overflow-sub-count c =
+pub overflow_sub-count : goal.overflow_sub-count
+overflow_sub-count c =
     let p : 2 ^ c.args.order ≤ 2 ^ 9 = pow_mono {i = c.args.order} {j = 9} (omega arith) in
     omega (arith, one_shl c.args.order 16 (omega arith), p)
 
-pub invariant-of-result : goal.invariant-of-result
-invariant-of-result c =
+pub invariant_of-result : goal.invariant_of-result
+invariant_of-result c =
     let p : 2 ^ c.args.order ≤ 2 ^ 9 = pow_mono {i = c.args.order} {j = 9} (omega arith) in
     let e : (1 * 2 ^ c.args.order) % 2 ^ 16 ≡ 2 ^ c.args.order = one_shl c.args.order 16 (omega arith) in
     let a : c.args.first % 2 ^ c.args.order ≡ 0 = subst (λ (m : ℕ). c.args.first % m ≡ 0) e c.if-first-count-ne0.false in
-    (omega arith, (a, (omega (arith, e), tt)))
+    record { small = omega arith; aligned = a; within = omega (arith, e) }

@@ -15,7 +15,7 @@ append-requires c =
     let b = c.args.block.block in
     let r : b.first + 2 ^ b.order ≤ s.frames = omega (arith, c.end-end.ensures) in
     let t = added_room (bit s.free) s.filled b.first (2 ^ b.order) s.frames s.counted r
-    (λ f u v. c.in-default.ensures f (omega (arith, c.first-first.ensures)) (omega (arith, c.end-end.ensures))) in
+    (λ f u v. c.in_default.ensures f (omega (arith, c.first-first.ensures)) (omega (arith, c.end-end.ensures))) in
     (omega (arith, t, s.room), omega (arith, s.fits, s.small))
 
 inside : (c : goal.After-count) → c.args.block.block.first + 2 ^ c.args.block.block.order ≤ c.args.self.now.frames
@@ -29,17 +29,17 @@ joined c =
     let n : c.numbers.result.first ≡ c.args.block.block.first = ap (λ (b : AlignedBlock). b.first) c.numbers.ensures in
     let p : 2 ^ c.numbers.result.order ≡ 2 ^ c.args.block.block.order = ap (λ (b : AlignedBlock). 2 ^ b.order) c.numbers.ensures in
     record {
-      was = λ f u v. c.in-default.ensures f (omega (arith, c.first-first.ensures)) (omega (arith, c.end-end.ensures));
+      was = λ f u v. c.in_default.ensures f (omega (arith, c.first-first.ensures)) (omega (arith, c.end-end.ensures));
       is = λ f u v. c.fill.ensures.here f (omega arith) (omega arith) (omega (arith, s.long, s.small, r));
       below = λ f u. c.fill.ensures.below f (omega arith);
       above = λ f u. c.fill.ensures.above f (omega arith);
     }
 
-pub overflow-add-self : goal.overflow-add-self
-overflow-add-self c = let s = c.args.self.now in omega (arith, c.count.ensures, s.fits, s.small, inside c)
+pub overflow_add-self : goal.overflow_add-self
+overflow_add-self c = let s = c.args.self.now in omega (arith, c.count.ensures, s.fits, s.small, inside c)
 
-pub invariant-of-self : goal.invariant-of-self
-invariant-of-self c =
+pub invariant_of-self : goal.invariant_of-self
+invariant_of-self c =
     let s = c.args.self.now in
     let b = c.args.block.block in
     let xs = vec_items s.places in

@@ -21,8 +21,8 @@ block-at-block-requires c =
     let l = last s c.index-frame.result.now c.if-self-eq0.false c.index-frame.ensures in
     (omega arith, omega (arith, l.1, s.small))
 
-pub invariant-of-self : goal.invariant-of-self
-invariant-of-self c =
+pub invariant_of-self : goal.invariant_of-self
+invariant_of-self c =
     let s = c.args.self.now in
     let xs = vec_items s.places in
     let x : ℕ = c.index-frame.result.now in

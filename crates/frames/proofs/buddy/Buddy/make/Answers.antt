@@ -26,8 +26,8 @@ loop-f-preserved c =
           (one_more (bit c.loop-f.free) (bit c.set.new.words) c.loop-f.f i.2 i.3 b c.set.ensures.others),
     )
 
-pub invariant-of-result : goal.invariant-of-result
-invariant-of-result c =
+pub invariant_of-result : goal.invariant_of-result
+invariant_of-result c =
     let i = c.loop-f.invariant in
     let n = c.args.accepted.frames in
     let m = bit c.loop-f.free in

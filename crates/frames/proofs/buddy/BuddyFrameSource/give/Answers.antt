@@ -31,17 +31,17 @@ gave c =
     (sym n ∙ c.index.ensures.0 ∙ ap (λ (x : ℕ). c.index.result * x) p) (c.order.ensures ∙ o) r
     (marked_from (bit s.marks) (bit s.free) s.whole s.alone s.all) s.within
     c.merge.ensures
-    (λ f u v. c.in-default.ensures f (omega (arith, c.first-first.ensures)) (omega (arith, c.end-end.ensures)))
+    (λ f u v. c.in_default.ensures f (omega (arith, c.first-first.ensures)) (omega (arith, c.end-end.ensures)))
     (λ f u v. c.fill.ensures.here f (omega arith) (omega arith) (omega (arith, s.long, s.small, r)))
     (λ f u. c.fill.ensures.below f (omega arith)) (λ f u. c.fill.ensures.above f (omega arith))
 
-pub overflow-add-self : goal.overflow-add-self
-overflow-add-self c =
+pub overflow_add-self : goal.overflow_add-self
+overflow_add-self c =
     let s = c.args.self.now in
     omega (arith, s.counted, size c, s.small, inside c, tally_le (bit s.free) s.frames)
 
-pub invariant-of-self : goal.invariant-of-self
-invariant-of-self c =
+pub invariant_of-self : goal.invariant_of-self
+invariant_of-self c =
     let s = c.args.self.now in
     let t = gave c in
     let m = bit c.merge.new.marks in

@@ -35,11 +35,11 @@ took c =
 size : (c : goal.After-count) → c.count.result ≡ 2 ^ c.args.order
 size c = c.count.ensures ∙ ap (λ (x : ℕ). 2 ^ x) c.block-at-block.ensures.1
 
-pub overflow-sub-self : goal.overflow-sub-self
-overflow-sub-self c = let t = (took c).2 in let z = size c in let k = c.args.self.now.counted in omega (arith, t, z, k)
+pub overflow_sub-self : goal.overflow_sub-self
+overflow_sub-self c = let t = (took c).2 in let z = size c in let k = c.args.self.now.counted in omega (arith, t, z, k)
 
-pub invariant-of-self : goal.invariant-of-self
-invariant-of-self c =
+pub invariant_of-self : goal.invariant_of-self
+invariant_of-self c =
     let s = c.args.self.now in
     let t = took c in
     let z = size c in

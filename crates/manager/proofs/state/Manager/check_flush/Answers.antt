@@ -6,7 +6,7 @@ use Rattle.manager.proofs.state.Manager.check_flush.Goals as goal
 
 pub returns-else-list-size : goal.returns-else-list-size
 returns-else-list-size g c =
-    let e = c.in-ok-size.ensures in
+    let e = c.in_ok-size.ensures in
     let n = get_or c.args.self.now.sizes c.args.object 0 in
     let f = stored_few (g.H.MappingHardware.at c.args.self.now.hardware c.args.object) (get_or c.args.self.now.sizes c.args.object 0) in
     let l : ltb (length c.args.list.now) (stored_below (g.H.MappingHardware.at c.args.self.now.hardware c.args.object) (get_or c.args.self.now.sizes c.args.object 0)) ≡ false =

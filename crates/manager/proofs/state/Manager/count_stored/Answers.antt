@@ -7,8 +7,8 @@ use Rattle.manager.proofs.state.Manager.count_stored.Goals.{then-is-stored, else
 pub loop-page-init : goal.loop-page-init
 loop-page-init g c = sym (stored_none _)
 
-pub overflow-add-count : goal.overflow-add-count
-overflow-add-count g c = let i = c.loop-page.invariant in let f = stored_few (g.H.MappingHardware.at c.args.self.now.hardware c.args.object) c.loop-page.page in omega arith
+pub overflow_add-count : goal.overflow_add-count
+overflow_add-count g c = let i = c.loop-page.invariant in let f = stored_few (g.H.MappingHardware.at c.args.self.now.hardware c.args.object) c.loop-page.page in omega arith
 
 pub loop-page-preserved : goal.loop-page-preserved
 loop-page-preserved g c =

@@ -7,8 +7,8 @@ use Rattle.manager.proofs.state.Manager.list_stored.Goals.{then-is-stored+then-c
 pub loop-page-init : goal.loop-page-init
 loop-page-init g c = let z = stored_none (g.H.MappingHardware.at c.args.self.now.hardware c.args.object) in (omega arith, omega arith, λ _. sym z)
 
-pub overflow-add-count : goal.overflow-add-count
-overflow-add-count g c = let i = c.loop-page.invariant in let f = stored_few (g.H.MappingHardware.at c.args.self.now.hardware c.args.object) c.loop-page.page in omega (arith, i.0)
+pub overflow_add-count : goal.overflow_add-count
+overflow_add-count g c = let i = c.loop-page.invariant in let f = stored_few (g.H.MappingHardware.at c.args.self.now.hardware c.args.object) c.loop-page.page in omega (arith, i.0)
 
 pub loop-page-preserved : goal.loop-page-preserved
 loop-page-preserved g c =

@@ -53,8 +53,8 @@ done c =
       cleared xs ys c.args.object c.args.page.0 sound (omega arith) (omega arith) some c.order-of-order.result is w,
     )
 
-pub invariant-of-self : goal.invariant-of-self
-invariant-of-self c = let s = (done c).0 in (c.write.ensures.length ∙ c.args.self.now.long, (s.small, (s.same, tt)))
+pub invariant_of-self : goal.invariant_of-self
+invariant_of-self c = let s = (done c).0 in (c.write.ensures.length ∙ c.args.self.now.long, (s.small, (s.same, tt)))
 
 pub returns : goal.returns
 returns c =

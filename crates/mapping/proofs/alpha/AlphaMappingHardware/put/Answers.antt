@@ -60,8 +60,8 @@ done c =
     let w = written xs ys _ _ _ _ _ _ _ c.place-start.ensures c.span-count.ensures c.encode.ensures.0 c.write.ensures.inside c.write.ensures.lower c.write.ensures.upper in
     (put_sound xs ys c.args.object l sound f even free w, put_ok xs ys c.args.object l sound f even free w)
 
-pub invariant-of-self : goal.invariant-of-self
-invariant-of-self c = let s = (done c).0 in (c.write.ensures.length ∙ c.args.self.now.long, (s.small, (s.same, tt)))
+pub invariant_of-self : goal.invariant_of-self
+invariant_of-self c = let s = (done c).0 in (c.write.ensures.length ∙ c.args.self.now.long, (s.small, (s.same, tt)))
 
 pub returns : goal.returns
 returns c =

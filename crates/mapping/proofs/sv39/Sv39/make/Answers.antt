@@ -9,8 +9,8 @@ zero : (c : After-write) → (i : ℕ) → get_or (vec_items c.write.new.table) 
 zero c =
     all_zero (vec_items c.write.new.table) 4104 (sym (c.write.ensures.length ∙ c.args.accepted.long) ∙ c.write.new.table.ok.0) c.write.ensures.inside
 
-pub invariant-of-result : goal.invariant-of-result
-invariant-of-result c =
+pub invariant_of-result : goal.invariant_of-result
+invariant_of-result c =
     let s = blank_sound (vec_items c.write.new.table) (zero c) in
     (c.write.ensures.length ∙ c.args.accepted.long, (refl, (s.small, (s.low, (s.top, (λ n h. get_or-replicate {A = ℕ} 8 n 0 0 h ∙ sym (empty_count_lem (vec_items c.write.new.table) n (λ d l. zero c (8 + n * 512 + d))), tt))))))
 

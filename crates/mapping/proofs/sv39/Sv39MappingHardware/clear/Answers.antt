@@ -37,8 +37,8 @@ big c =
     (sym (ap (λ x. x % 4) c.read-top.ensures) ∙ c.if-top-eq-LEAF.true)
     (record { here = c.set.ensures.here; others = c.set.ensures.others })
 
-pub invariant-of-self : goal.invariant-of-self
-invariant-of-self c =
+pub invariant_of-self : goal.invariant_of-self
+invariant_of-self c =
     let d = big c in
     let s = d.sound in
     (c.set.ensures.length ∙ c.args.self.now.long, (c.args.self.now.eight, (s.small, (s.low, (s.top, (d.counts.each, tt))))))
@@ -62,8 +62,8 @@ small c =
     (λ h. c.if-top-eq-LEAF.false (ap (λ x. x % 4) c.read-top.ensures ∙ h)) (λ z. c.if-read-eq0.false (c.read.ensures ∙ z))
     (record { here = c.set-lower.ensures.here; top = c.set-lower.ensures.top; others = c.set-lower.ensures.others; counted = c.set-lower.ensures.counted; kept = c.set-lower.ensures.kept })
 
-pub invariant-of-self-2 : goal.invariant-of-self-2
-invariant-of-self-2 c =
+pub invariant_of-self-2 : goal.invariant_of-self-2
+invariant_of-self-2 c =
     let d = small c in
     let s = d.sound in
     (c.set-lower.ensures.long ∙ c.args.self.now.long, (c.set-lower.ensures.eight, (s.small, (s.low, (s.top, (d.counts.each, tt))))))

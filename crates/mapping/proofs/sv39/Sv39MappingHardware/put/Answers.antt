@@ -57,8 +57,8 @@ big c =
     (record { inside = c.empty-table.ensures.inside; lower = c.empty-table.ensures.lower; upper = c.empty-table.ensures.upper; none = c.empty-table.ensures.none; kept = c.empty-table.ensures.kept })
     (record { here = c.set.ensures.here; others = c.set.ensures.others })
 
-pub invariant-of-self : goal.invariant-of-self
-invariant-of-self c =
+pub invariant_of-self : goal.invariant_of-self
+invariant_of-self c =
     let d = big c in
     let s = d.sound in
     (c.set.ensures.length ∙ c.empty-table.ensures.long ∙ c.args.self.now.long, (c.empty-table.ensures.eight, (s.small, (s.low, (s.top, (d.counts.each, tt))))))
@@ -83,8 +83,8 @@ small c =
     (λ h. c.if-read-eq-LEAF.false (ap (λ x. x % 4) c.read.ensures ∙ h))
     (record { here = c.set-lower.ensures.here; top = c.set-lower.ensures.top; others = c.set-lower.ensures.others; counted = c.set-lower.ensures.counted; kept = c.set-lower.ensures.kept })
 
-pub invariant-of-self-2 : goal.invariant-of-self-2
-invariant-of-self-2 c =
+pub invariant_of-self-2 : goal.invariant_of-self-2
+invariant_of-self-2 c =
     let d = small c in
     let s = d.sound in
     (c.set-lower.ensures.long ∙ c.args.self.now.long, (c.set-lower.ensures.eight, (s.small, (s.low, (s.top, (d.counts.each, tt))))))

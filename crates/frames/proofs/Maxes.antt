@@ -1,8 +1,7 @@
-use Rattle.std.proofs.Common.{◌≡◌, ℕ, zero, suc, ◌+◌, ◌-◌, ◌*◌, ◌/◌, ◌%◌, ◌^◌, ◌<◌, ◌≤◌, Bool, true, false, ◌⊎◌, sym, refl, ap, ◌∙◌, subst, inl, inr, ⊎_elim, arith, pow_mono}
-use native.Mathlib.Nat.{div-eq_of_eq-mul_left}
-use Rattle.std.proofs.lemmas.Nat.{pow_pos, pow-add, shr-shr, shl-shr}
-use Rattle.std.proofs.lemmas.Bool.{cases_eq, cases_order, cases_lt, cases_Bool, both_ways}
-use Rattle.frames.specs.Maximal.{Whole, Max, Splits, node, Sound, Full, Marked}
+use Rattle.std.proofs.Common.{◌≡◌, ℕ, zero, suc, ◌+◌, ◌-◌, ◌*◌, ◌/◌, ◌^◌, ◌<◌, ◌≤◌, Bool, true, false, sym, ap, ◌∙◌, subst, ⊎_elim, arith, pow_mono}
+use Rattle.std.proofs.lemmas.Nat.{pow-add, shr-shr, shl-shr}
+use Rattle.std.proofs.lemmas.Bool.{cases_eq, cases_order, cases_lt, both_ways}
+use Rattle.frames.specs.Maximal.{Whole, Max, Splits, node, Marked}
 
 pub up : (f j m : ℕ) → j ≤ m → f / 2 ^ m ≡ f / 2 ^ j / 2 ^ (m - j)
 up f j m h = let e : m ≡ j + (m - j) = omega arith in ap (λ (x : ℕ). f / 2 ^ x) e ∙ sym (shr-shr f j (m - j))

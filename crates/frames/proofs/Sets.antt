@@ -1,11 +1,11 @@
-use Rattle.std.proofs.Common.{◌≡◌, ℕ, zero, suc, ◌+◌, ◌-◌, ◌*◌, ◌/◌, ◌%◌, ◌^◌, ◌<◌, ◌≤◌, Bool, true, false, cond, ◌⊎◌, sym, refl, ap, ◌∙◌, subst, inl, inr, ⊎_elim, mul_assoc, arith}
+use Rattle.std.proofs.Common.{◌≡◌, ℕ, zero, suc, ◌+◌, ◌-◌, ◌*◌, ◌/◌, ◌^◌, ◌<◌, ◌≤◌, Bool, true, false, cond, sym, refl, ap, ◌∙◌, subst, ⊎_elim, mul_assoc, arith}
 use Rattle.std.proofs.lemmas.Nat.{shl-shr, pow_pos, pow-add, shl_below}
-use Rattle.std.proofs.lemmas.Bool.{cases_eq, cases_lt, cases_Bool, both_ways}
+use Rattle.std.proofs.lemmas.Bool.{cases_lt, cases_Bool, both_ways}
 use Rattle.blocks.proofs.Spans.{in_block, of_block, below}
 use Rattle.frames.specs.Source.{tally, Joined}
 use Rattle.frames.specs.Tally.{tally_joined}
-use Rattle.frames.specs.Maximal.{Whole, Max, Splits, Parts, node, Marked, BlockAt, FrameIn, MarkedWhole, MarkedAlone, MarkedAll, Lowest, Tile}
-use Rattle.frames.proofs.Maxes.{up, half, first, held, marked_less, max_one}
+use Rattle.frames.specs.Maximal.{Whole, Max, Splits, Parts, node, Marked, BlockAt, MarkedWhole, MarkedAlone, MarkedAll, Lowest, Tile}
+use Rattle.frames.proofs.Maxes.{up, first, held, marked_less, max_one}
 use Rattle.frames.proofs.Steps.{less, less_in, less_out, splits_less}
 
 -- the marks, as the struct has them

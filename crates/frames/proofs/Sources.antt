@@ -1,4 +1,4 @@
-use Rattle.std.proofs.Common.{◌≡◌, ℕ, ◌+◌, ◌-◌, ◌^◌, ◌<◌, ◌≤◌, Bool, true, false, cond, ◌&&◌, ◌||◌, leb, ◌⊎◌, Ok, Err, Result, sym, refl, ap, ◌∙◌, subst, inl, inr, ⊎_elim, add-one, arith, MatchResult}
+use Rattle.std.proofs.Common.{◌≡◌, ℕ, ◌+◌, ◌-◌, ◌^◌, ◌<◌, ◌≤◌, Bool, true, false, cond, ◌&&◌, ◌||◌, leb, Ok, Err, Result, sym, refl, ap, ◌∙◌, subst, ⊎_elim, add-one, arith, MatchResult}
 use Rattle.std.proofs.lemmas.Nat.{pow_pos}
 use Rattle.std.proofs.lemmas.Bool.{cases_eq, cases_lt, cases_Bool, both_ways, le-leb, lt-leb}
 use Rattle.blocks.specs.declared.block.FrameBlock.{FrameBlock}
@@ -6,8 +6,7 @@ use Rattle.frames.specs.declared.refusal.TakeError.{TakeError}
 use Rattle.frames.specs.declared.refusal.TakeError.TheVariants.{BadOrder, NoBlock}
 use Rattle.frames.specs.declared.refusal.GiveError.{GiveError}
 use Rattle.frames.specs.declared.refusal.GiveError.TheVariants.{PastEnd, AlreadyFree}
-use Rattle.frames.specs.Refusals.{give_number}
-use Rattle.frames.specs.Source.{Source, Lawful, tally, Joined, Took, Takes, Gave, GiveRefused, Gives}
+use Rattle.frames.specs.Source.{Source, Lawful, tally, Took, Takes, Gave, Gives}
 use Rattle.frames.specs.Laws.{free_count, FreeBlock, SameFrames, Without}
 use Rattle.frames.specs.Tally.{tally_joined}
 use Rattle.frames.specs.Lists.{tally_more}

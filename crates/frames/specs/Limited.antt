@@ -1,4 +1,4 @@
-use Rattle.std.specs.Prelude.{◌≡◌, ℕ, ◌+◌, ◌^◌, ◌<◌, ◌≤◌, min, Bool, true, false, cond, Ok, Err, Result, nat_lt}
+use Rattle.std.specs.Prelude.{◌≡◌, ℕ, ◌+◌, ◌^◌, ◌<◌, ◌≤◌, min, cond, Ok, Err, Result, nat_lt}
 use Rattle.blocks.specs.declared.block.FrameBlock.{FrameBlock}
 use Rattle.frames.specs.declared.refusal.GiveError.{GiveError}
 use Rattle.frames.specs.declared.refusal.TakeError.{TakeError}

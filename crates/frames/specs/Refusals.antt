@@ -4,7 +4,6 @@ use Rattle.frames.specs.declared.refusal.TakeError.{TakeError}
 use Rattle.frames.specs.declared.refusal.TakeError.TheVariants.{BadOrder, NoBlock}
 use Rattle.frames.specs.declared.refusal.GiveError.{GiveError}
 use Rattle.frames.specs.declared.refusal.GiveError.TheVariants.{PastEnd, AlreadyFree}
-use Rattle.frames.specs.declared.refusal.BadSource.{BadSource}
 
 -- what a take answers: a block by its first frame and its order, a refusal by its number, or none with its depth
 pub data TakeAnswer : Type 0 where

@@ -1,12 +1,12 @@
-use Rattle.std.proofs.Common.{◌≡◌, ℕ, ◌+◌, ◌-◌, ◌*◌, ◌/◌, ◌%◌, ◌^◌, ◌<◌, ◌≤◌, Bool, true, false, cond, ◌&&◌, eqb, ltb, ◌≢◌, ◌⊎◌, List, length, get_or, Some, None, Option, sym, refl, ap, ◌∙◌, subst, inl, inr, mod-lt, mul-zero, zero-add, arith}
+use Rattle.std.proofs.Common.{◌≡◌, ℕ, ◌+◌, ◌-◌, ◌*◌, ◌/◌, ◌%◌, ◌^◌, ◌<◌, ◌≤◌, Bool, true, false, cond, ◌&&◌, eqb, ltb, List, length, get_or, Some, None, Option, sym, refl, ap, ◌∙◌, subst, inl, inr, arith}
 use native.Mathlib.Nat.{mul-mod_left}
 use Rattle.std.proofs.lemmas.Nat.{pow_pos}
 use Rattle.std.proofs.lemmas.Bool.{cases_eq, cases_lt}
 use Rattle.mapping.specs.declared.leaf.Leaf.{Leaf}
-use Rattle.mapping.specs.Leaves.{Leaves, Lawful, OneOf, Falling, Kept, Filled, Fit, Cleared, PutOk, Reaches, lay}
-use Rattle.mapping.specs.AlphaFormat.{order_in, fault_in, alpha_word, frame_in, neighbour, alpha_leaf, alpha_at, alpha_of, alpha_sizes}
-use Rattle.mapping.specs.AlphaWords.{Order, hinted, word_order, word_fault, fault_bit, word_first, frame_aligned, word_some, neighbour_is, neighbour_order, neighbour_fault, neighbour_frame, neighbour_zero, neighbour_some}
-use Rattle.mapping.specs.Aligned.{nest, in_block, of_block, distance, start}
+use Rattle.mapping.specs.Leaves.{OneOf, Filled, Fit, Cleared, PutOk, Reaches, lay}
+use Rattle.mapping.specs.AlphaFormat.{order_in, fault_in, alpha_word, frame_in, alpha_leaf, alpha_at, alpha_sizes}
+use Rattle.mapping.specs.AlphaWords.{Order, hinted, word_order, word_fault, word_first, word_some, neighbour_zero}
+use Rattle.mapping.specs.Aligned.{in_block, of_block, distance, start}
 use Rattle.mapping.specs.AlphaTables.{Sound, Outside, sound_put, sound_clear}
 use Rattle.mapping.specs.AlphaLeaves.{by_order, at_in, at_object, at_page, leaf_is, leaf_none, leaf_at, alpha_lawful, fits_object, common, same_rest}
 use Rattle.mapping.specs.Reaching.{unhindered, reaches}

@@ -1,4 +1,4 @@
-use Rattle.std.proofs.Common.{◌≡◌, get_or, vec_items, sym, ◌∙◌}
+use Rattle.std.proofs.Common.{get_or, vec_items, sym, ◌∙◌}
 use Rattle.mapping.specs.declared.alpha.Alpha.{Alpha}
 use Rattle.mapping.specs.AlphaFormat.{alpha_at, AlphaTable}
 use Rattle.mapping.specs.AlphaTables.{Sound}

@@ -1,13 +1,13 @@
-use Rattle.std.proofs.Common.{◌≡◌, ℕ, ◌+◌, ◌-◌, ◌*◌, ◌/◌, ◌%◌, ◌^◌, ◌<◌, ◌≤◌, Bool, true, false, cond, eqb, ltb, ◌⊎◌, List, Some, None, Option, sym, refl, ap, ◌∙◌, subst, inl, inr, arith}
-use Rattle.std.proofs.lemmas.Bool.{cases_eq, cases_Bool, cond-true, cond-false, eq-eqb, ne_eqb, lt-ltb, le-ltb}
+use Rattle.std.proofs.Common.{◌≡◌, ℕ, ◌+◌, ◌-◌, ◌*◌, ◌/◌, ◌%◌, ◌^◌, ◌<◌, Bool, true, false, cond, Some, None, Option, sym, refl, ap, ◌∙◌, subst, inl, inr, arith}
+use Rattle.std.proofs.lemmas.Bool.{cases_Bool, cond-true, cond-false, eq-eqb, ne_eqb, lt-ltb, le-ltb}
 use Rattle.mapping.specs.Told.{none_some, some_is}
 use Rattle.mapping.specs.declared.leaf.Leaf.{Leaf}
-use Rattle.mapping.specs.Leaves.{Leaves, Lawful, AllLawful, lay}
-use Rattle.mapping.specs.AlphaFormat.{alpha_sizes, alpha_of, alpha_entry, alpha_leaf, alpha_word, AlphaTells, AlphaDetermines}
+use Rattle.mapping.specs.Leaves.{Leaves, AllLawful, lay}
+use Rattle.mapping.specs.AlphaFormat.{alpha_of, alpha_entry, alpha_leaf, alpha_word, AlphaTells, AlphaDetermines}
 use Rattle.mapping.specs.Sv39Format.{sv39_sizes, sv39_of, lower_of, upper_of, any_leaf, sv39_entry, sv39_leaf, sv39_word, walk, Sv39Tells, Sv39Determines}
 use Rattle.mapping.specs.AlphaLeaves.{leaf_none}
 use Rattle.mapping.proofs.AlphaCalls.{read_back, order_of}
-use Rattle.mapping.specs.Sv39Words.{leaf_not, leaf_is, leaf_of, walk_big, walk_small, word_leaf}
+use Rattle.mapping.specs.Sv39Words.{leaf_not, leaf_is, walk_big, walk_small, word_leaf}
 use Rattle.mapping.proofs.Sv39Calls.{sized, leaf_word}
 use Rattle.mapping.proofs.Sv39Exact.{any_has}
 

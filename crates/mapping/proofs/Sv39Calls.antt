@@ -1,12 +1,12 @@
-use Rattle.std.proofs.Common.{◌≡◌, ℕ, zero, suc, ◌+◌, ◌-◌, ◌*◌, ◌/◌, ◌%◌, ◌^◌, ◌<◌, ◌≤◌, Bool, true, false, cond, ◌&&◌, eqb, ltb, ◌≢◌, ◌⊎◌, List, length, get_or, Some, None, Option, sym, refl, ap, ◌∙◌, subst, inl, inr, arith}
-use Rattle.std.proofs.lemmas.Bool.{cases_eq, cases_lt, cases_Bool, cond-true}
+use Rattle.std.proofs.Common.{◌≡◌, ℕ, ◌+◌, ◌-◌, ◌*◌, ◌/◌, ◌%◌, ◌^◌, ◌<◌, ◌≤◌, Bool, true, false, cond, eqb, ◌⊎◌, List, get_or, Some, None, sym, refl, ap, ◌∙◌, subst, inl, inr, arith}
+use Rattle.std.proofs.lemmas.Bool.{cases_eq, cases_lt, cond-true}
 use Rattle.mapping.specs.Told.{none_some, some_is}
 use Rattle.mapping.specs.declared.leaf.Leaf.{Leaf}
-use Rattle.mapping.specs.Leaves.{Leaves, Lawful, OneOf, Falling, Kept, Filled, Fit, Cleared, PutOk, Reaches, lay}
+use Rattle.mapping.specs.Leaves.{OneOf, Fit, Cleared, PutOk, Reaches, lay}
 use Rattle.mapping.proofs.Counts.{one, count_cong, count_none, count_set, count_any}
-use Rattle.mapping.specs.Sv39Format.{sv39_word, lower_word, upper_word, any_below, held, count_below, leaves_in, sv39_leaf, walk, sv39_at, sv39_sizes}
+use Rattle.mapping.specs.Sv39Format.{sv39_word, lower_word, upper_word, held, leaves_in, sv39_leaf, sv39_at, sv39_sizes}
 use Rattle.mapping.specs.Reaching.{unhindered, reaches}
-use Rattle.mapping.specs.Sv39Words.{Sound, On, Moved, any_some, any_none, any_cong, any_zero, word_lower, word_upper, word_frame, word_bit, word_some, word_leaf, lower_zero, upper_zero, upper_held, upper_kinds, lower_kinds, leaf_not, leaf_is, leaf_of, at_in, at_object, at_page, at_small, at_big}
+use Rattle.mapping.specs.Sv39Words.{Sound, On, Moved, any_none, any_zero, word_lower, word_upper, word_frame, word_bit, word_some, word_leaf, lower_zero, upper_zero, upper_held, lower_kinds, leaf_not, leaf_is, leaf_of, at_object, at_page, at_small, at_big}
 use Rattle.mapping.specs.Sv39Moves.{big_frame, sv39_lawful, sv39_falling, big_filled, small_filled, top_moved, top_sound, low_moved, low_sound, low_held}
 
 bit_low : (w : Bool) → cond w 1 0 < 2

@@ -1,10 +1,10 @@
-use Rattle.std.proofs.Common.{◌≡◌, ℕ, zero, suc, ◌+◌, ◌-◌, ◌*◌, ◌/◌, ◌%◌, ◌^◌, ◌<◌, ◌≤◌, Bool, true, false, cond, ◌&&◌, eqb, ltb, ◌≢◌, ◌⊎◌, List, length, get_or, is_some, Some, None, Option, sym, refl, ap, ◌∙◌, subst, inl, inr, arith}
+use Rattle.std.proofs.Common.{◌≡◌, ℕ, zero, suc, ◌+◌, ◌-◌, ◌*◌, ◌/◌, ◌%◌, ◌^◌, ◌<◌, true, false, cond, eqb, List, length, get_or, is_some, Some, None, Option, sym, refl, ap, ◌∙◌, subst, inl, inr, arith}
 use Rattle.std.proofs.lemmas.Bool.{cases_eq, cases_lt, cases_Bool, cond-true, cond-false, eq-eqb, ne_eqb, lt-ltb, le-ltb, true≢false}
 use Rattle.mapping.specs.Told.{none_some, some_is}
 use Rattle.mapping.specs.declared.leaf.Leaf.{Leaf}
-use Rattle.mapping.specs.Leaves.{Leaves, Lawful, OneOf}
-use Rattle.mapping.specs.Sv39Format.{sv39_word, lower_word, upper_word, any_below, held, sv39_leaf, walk, sv39_at, sv39_sizes, lower_of, upper_of, any_leaf, sv39_of, sv39_entry, Sv39Table}
-use Rattle.mapping.specs.Sv39Words.{Sound, any_zero, any_where, word_frame, word_leaf, upper_kinds, lower_kinds, leaf_not, leaf_is, leaf_of, at_small, at_big}
+use Rattle.mapping.specs.Leaves.{Leaves, Lawful}
+use Rattle.mapping.specs.Sv39Format.{sv39_word, held, sv39_at, sv39_sizes, lower_of, upper_of, any_leaf, sv39_of, sv39_entry, Sv39Table}
+use Rattle.mapping.specs.Sv39Words.{Sound, any_zero, any_where, word_frame, word_leaf, upper_kinds, lower_kinds, leaf_not, leaf_is, at_small, at_big}
 use Rattle.mapping.specs.Sv39Moves.{big_frame, sv39_lawful}
 use Rattle.mapping.proofs.Sv39Calls.{sized}
 

@@ -1,4 +1,4 @@
-use Rattle.std.proofs.Common.{◌≡◌, get_or, vec_items, sym, ◌∙◌}
+use Rattle.std.proofs.Common.{get_or, vec_items, sym, ◌∙◌}
 use Rattle.mapping.specs.declared.sv39.Sv39.{Sv39}
 use Rattle.mapping.specs.Sv39Format.{sv39_at, Sv39Table}
 use Rattle.mapping.specs.Sv39Words.{Sound}

@@ -1,18 +1,18 @@
-use Rattle.std.specs.Prelude.{◌≡◌, ℕ, ◌+◌, ◌-◌, ◌*◌, ◌/◌, ◌%◌, ◌^◌, ◌<◌, ◌≤◌, Bool, true, false, cond, ◌&&◌, ◌≢◌, ◌⊎◌, List, length, Some, None, Option, ◌==◌, slice_index, slice_index_or}
+use Rattle.std.specs.Prelude.{◌≡◌, ℕ, ◌+◌, ◌*◌, ◌/◌, ◌%◌, ◌^◌, ◌<◌, ◌≤◌, cond, ◌≢◌, List, length, Some, None, ◌==◌, slice_index, slice_index_or}
 use Rattle.std.proofs.Math.Path.{refl, ap, sym}
 use Rattle.std.proofs.Common.{◌∙◌, subst}
 use Rattle.std.proofs.Math.Logic.{inl, inr}
 use native.Mathlib.Omega.{arith}
 use Rattle.std.proofs.Math.Nat.{mod-lt, mul-mod_left}
 use Rattle.std.proofs.lemmas.Nat.{pow_pos}
-use Rattle.std.proofs.lemmas.Bool.{cases_eq, cases_lt, cases_Bool, cond-true, cond-false, eq-eqb, ne_eqb, lt-ltb, le-ltb, and_from, and_left, and_right}
+use Rattle.std.proofs.lemmas.Bool.{cases_eq, cases_lt, cond-true, cond-false, eq-eqb, ne_eqb, lt-ltb, le-ltb, and_from, and_left, and_right}
 use Rattle.mapping.specs.Told.{none_some, some_is}
 use Rattle.mapping.specs.declared.leaf.Leaf.{Leaf}
-use Rattle.mapping.specs.Leaves.{Leaves, Lawful, OneOf, Falling, Kept, Filled, lay}
+use Rattle.mapping.specs.Leaves.{Lawful, OneOf, Falling, lay}
 use Rattle.mapping.specs.AlphaFormat.{order_in, fault_in, alpha_word, frame_in, neighbour, alpha_leaf, alpha_at, alpha_of, alpha_entry, alpha_sizes, AlphaTable}
-use Rattle.mapping.specs.AlphaWords.{Order, hinted, word_order, word_fault, fault_bit, word_first, frame_aligned, word_some, neighbour_is, neighbour_order, neighbour_fault, neighbour_frame, neighbour_zero, neighbour_some}
-use Rattle.mapping.specs.Aligned.{nest, in_block, of_block, distance, start}
-use Rattle.mapping.specs.AlphaTables.{Sound, Outside}
+use Rattle.mapping.specs.AlphaWords.{Order, hinted, fault_bit, neighbour_is, neighbour_order, neighbour_fault, neighbour_frame, neighbour_some}
+use Rattle.mapping.specs.Aligned.{in_block}
+use Rattle.mapping.specs.AlphaTables.{Sound}
 
 pub by_order : (P : ℕ → Type 0) → P 0 → P 3 → P 6 → P 9 → (k : ℕ) → Order k → P k
 by_order P a b c d k o =

@@ -1,13 +1,13 @@
-use Rattle.std.specs.Prelude.{◌≡◌, ℕ, ◌+◌, ◌-◌, ◌*◌, ◌/◌, ◌%◌, ◌^◌, ◌<◌, ◌≤◌, ◌≢◌, ◌⊎◌, refl}
+use Rattle.std.specs.Prelude.{◌≡◌, ℕ, ◌+◌, ◌*◌, ◌/◌, ◌%◌, ◌^◌, ◌<◌, ◌≤◌, ◌≢◌}
 use Rattle.std.proofs.Math.Path.{ap, sym, subst}
 use Rattle.std.proofs.Common.{◌∙◌, arith}
 use Rattle.std.proofs.Math.Logic.{inl, inr}
 use Rattle.std.proofs.Math.Nat.{mod-lt, div-one}
-use Rattle.std.proofs.lemmas.Nat.{pow_pos, mul-le, shl-shr}
+use Rattle.std.proofs.lemmas.Nat.{pow_pos, shl-shr}
 use Rattle.std.proofs.lemmas.Bool.{cases_eq, cases_lt}
 use Rattle.mapping.specs.AlphaFormat.{order_in, fault_in, alpha_word, frame_in, neighbour}
-use Rattle.mapping.specs.AlphaWords.{Order, hinted, word_order, word_fault, word_first, word_some, neighbour_is, neighbour_order, neighbour_zero}
-use Rattle.mapping.specs.Aligned.{nest, in_block, of_block, distance, start}
+use Rattle.mapping.specs.AlphaWords.{Order, word_order, word_fault, word_first, word_some, neighbour_is, neighbour_order, neighbour_zero}
+use Rattle.mapping.specs.Aligned.{nest}
 
 pub record Sound (t : ℕ → ℕ) : Type 0 where
   pub small : (i : ℕ) → t i < 2 ^ 43

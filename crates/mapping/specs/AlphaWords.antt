@@ -1,5 +1,5 @@
-use Rattle.std.specs.Prelude.{◌≡◌, ℕ, ◌+◌, ◌-◌, ◌*◌, ◌/◌, ◌%◌, ◌^◌, ◌<◌, ◌≤◌, Bool, true, false, cond, ◌≢◌, ◌⊎◌, ◌==◌, refl}
-use Rattle.std.proofs.Common.{ap, ◌∙◌, sym, subst, inl, inr, arith}
+use Rattle.std.specs.Prelude.{◌≡◌, ℕ, ◌+◌, ◌*◌, ◌/◌, ◌%◌, ◌^◌, ◌<◌, ◌≢◌, ◌==◌, refl}
+use Rattle.std.proofs.Common.{ap, ◌∙◌, sym, inl, inr, arith}
 use native.Mathlib.Nat.{mod-lt, mul-div_cancel_left}
 use lib.Pow.{high, low}
 use Rattle.std.proofs.lemmas.Nat.{pow_pos}

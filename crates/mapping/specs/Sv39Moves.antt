@@ -1,14 +1,13 @@
-use Rattle.std.specs.Prelude.{◌≡◌, ℕ, zero, suc, ◌+◌, ◌-◌, ◌*◌, ◌/◌, ◌%◌, ◌^◌, ◌<◌, ◌≤◌, Bool, true, false, cond, ◌&&◌, ◌≢◌, ◌⊎◌, List, length, Some, None, Option, slice_index, slice_index_or, refl}
+use Rattle.std.specs.Prelude.{◌≡◌, ℕ, ◌+◌, ◌-◌, ◌*◌, ◌/◌, ◌%◌, ◌^◌, ◌<◌, ◌≤◌, true, false, ◌≢◌, List, Some, Option, slice_index, slice_index_or, refl}
 use Rattle.std.proofs.Common.{ap, ◌∙◌, subst, inl, inr}
 use Rattle.std.proofs.Math.Path.{sym}
 use native.Mathlib.Omega.{arith}
-use Rattle.std.proofs.lemmas.Bool.{cases_eq, cases_lt, cases_Bool}
+use Rattle.std.proofs.lemmas.Bool.{cases_eq, cases_lt}
 use Rattle.mapping.specs.Told.{none_some, some_is}
 use Rattle.mapping.specs.declared.leaf.Leaf.{Leaf}
-use Rattle.mapping.specs.Leaves.{Leaves, Lawful, OneOf, Falling, Kept, Filled, Fit, Cleared, PutOk, Reaches, lay}
-use Rattle.mapping.specs.Sv39Format.{sv39_word, lower_word, upper_word, any_below, held, sv39_leaf, walk, sv39_at, sv39_sizes}
-use Rattle.mapping.specs.Reaching.{unhindered, reaches}
-use Rattle.mapping.specs.Sv39Words.{Sound, On, Moved, step, any_some, any_none, any_cong, any_zero, word_lower, word_upper, word_frame, word_bit, word_some, word_leaf, lower_zero, upper_zero, upper_held, upper_kinds, lower_kinds, leaf_not, leaf_is, leaf_of, at_in, at_object, at_page, at_small, at_big}
+use Rattle.mapping.specs.Leaves.{Lawful, Falling, Filled}
+use Rattle.mapping.specs.Sv39Format.{lower_word, upper_word, held, sv39_leaf, walk, sv39_at, sv39_sizes}
+use Rattle.mapping.specs.Sv39Words.{Sound, On, Moved, step, any_some, any_none, word_frame, lower_zero, upper_kinds, leaf_not, leaf_is, leaf_of, at_in, at_object, at_page, at_small, at_big}
 
 pub sv39_falling : Falling sv39_sizes
 sv39_falling =

@@ -1,12 +1,12 @@
-use Rattle.std.specs.Prelude.{◌≡◌, ℕ, zero, suc, ◌+◌, ◌-◌, ◌*◌, ◌/◌, ◌%◌, ◌^◌, ◌<◌, ◌≤◌, Bool, true, false, cond, ◌&&◌, ◌≢◌, ◌⊎◌, List, length, Some, None, Option, ◌==◌, slice_index, slice_index_or, refl}
+use Rattle.std.specs.Prelude.{◌≡◌, ℕ, zero, suc, ◌+◌, ◌*◌, ◌/◌, ◌%◌, ◌^◌, ◌<◌, ◌≤◌, Bool, true, false, cond, ◌≢◌, ◌⊎◌, List, Some, None, ◌==◌, slice_index, slice_index_or, refl}
 use Rattle.std.proofs.Common.{ap, ◌∙◌, subst}
 use Rattle.std.proofs.Math.Path.{sym}
 use Rattle.std.proofs.Math.Logic.{inl, inr}
 use native.Mathlib.Omega.{arith}
-use Rattle.std.proofs.lemmas.Bool.{cases_eq, cases_lt, cases_Bool, cond-true, cond-false, eq-eqb, ne_eqb, lt-ltb, le-ltb, and_from, and_left, and_right, true≢false, both_ways}
+use Rattle.std.proofs.lemmas.Bool.{cases_eq, cases_lt, cond-true, cond-false, eq-eqb, ne_eqb, lt-ltb, le-ltb, and_from, and_left, and_right, true≢false, both_ways}
 use Rattle.mapping.specs.declared.leaf.Leaf.{Leaf}
-use Rattle.mapping.specs.Leaves.{Leaves, Lawful, OneOf, Falling, Kept, Filled, lay}
-use Rattle.mapping.specs.Sv39Format.{sv39_word, lower_word, upper_word, any_below, held, sv39_leaf, walk, sv39_at, sv39_sizes}
+use Rattle.mapping.specs.Leaves.{lay}
+use Rattle.mapping.specs.Sv39Format.{sv39_word, lower_word, upper_word, any_below, held, sv39_leaf, walk, sv39_at}
 
 pub any_cong : (f g : ℕ → ℕ) (n : ℕ) → ((d : ℕ) → d < n → f d ≡ g d) → any_below f n ≡ any_below g n
 unfolding any_below

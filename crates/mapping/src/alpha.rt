@@ -1,8 +1,8 @@
 ghost use Rattle.std.specs.Prelude.{◌≡◌, ℕ, ◌+◌, ◌*◌, ◌/◌, ◌%◌, ◌^◌, ◌<◌, ◌≤◌, length, if◌then◌else◌, None, vec_len, MatchResult, OnErr, ◌≢◌, slice_index};
 ghost use Rattle.mapping.specs.Leaves.{bad_alpha_number, Put, Clear, laid};
 ghost use Rattle.mapping.specs.AlphaFormat.{order_in, neighbour, alpha_leaf, alpha_word, alpha_at, alpha_sizes, alpha_entry, AlphaTable};
-ghost use Rattle.mapping.specs.AlphaLeaves.{alpha_falling};
-ghost use Rattle.std.proofs.Common.{rules, arith};
+ghost use Rattle.mapping.specs.AlphaLeaves.{alpha_falling, alpha_lawful};
+ghost use Rattle.std.proofs.Common.{arith};
 
 use crate::fit::{asked, fits, floor, span};
 use crate::hardware::{Geometry, MappingHardware};
@@ -114,11 +114,11 @@ impl Geometry for Alpha {
 impl MappingHardware for Alpha {
     ghost at = { λ s. alpha_at s.table.items };
 
-    ghost bounded = { first_of (Prim.search rules, Prim.grind (arith, Self.row.coded.inj)) };
+    ghost bounded = { omega arith };
 
     ghost falling = { alpha_falling };
 
-    ghost lawful = { first_of (Prim.search rules, Prim.grind (arith, Self.row.coded.inj)) };
+    ghost lawful = { λ s. alpha_lawful s.table.items (record { small = s.small; same = s.same }) };
 
     fn leaf(&self, object: u8, page: PageNumber) -> Option<Leaf> {
         if object > 3 || page.0 > 1023 {

@@ -6,7 +6,7 @@ use blocks::number::PageNumber;
 
 // Clears every leaf of an object, from its lowest page up, and asks before each clear.
 pub fn clear_object<H: MappingHardware>(hardware: &mut H, object: u8)
-    ensures { Emptied (at hardware.old) (at hardware.new) object }
+    ensures { Emptied (H.MappingHardware.at hardware.old) (H.MappingHardware.at hardware.new) object }
 {
     let mut page = 0u16;
     while page < 1024 {

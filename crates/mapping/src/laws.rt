@@ -10,7 +10,7 @@ use blocks::number::FrameNumber;
 
 // Two different leaves of one object never overlap, at any hardware.
 pub fn leaves_lie_apart<H: MappingHardware>(hardware: &H)
-    ensures { LieApart (at hardware.now) }
+    ensures { LieApart (H.MappingHardware.at hardware.now) }
 {}
 
 // Puts a leaf and clears it again. Where no leaf lay in the block, this changes nothing.
@@ -21,7 +21,7 @@ pub fn put_then_clear<H: MappingHardware>(
     frame: FrameNumber,
     writable: bool,
 ) -> Result<(), PutError>
-    ensures { PutThenCleared H.Geometry.sizes (at hardware.old) (at hardware.new) object (laid pages frame writable) result }
+    ensures { PutThenCleared H.Geometry.sizes (H.MappingHardware.at hardware.old) (H.MappingHardware.at hardware.new) object (laid pages frame writable) result }
 {
     hardware.put(object, pages, frame, writable)?;
     let _ = hardware.clear(object, pages.first());

@@ -1,8 +1,8 @@
 ghost use Rattle.std.specs.Prelude.{◌≡◌, ℕ, ◌+◌, ◌*◌, ◌/◌, ◌%◌, ◌^◌, ◌<◌, ◌≤◌, length, if◌then◌else◌, None, vec_len, MatchResult, OnErr, ◌≢◌, nat_eq, slice_index};
 ghost use Rattle.mapping.specs.Leaves.{bad_sv39_number, Put, Clear, laid};
 ghost use Rattle.mapping.specs.Sv39Format.{sv39_word, lower_word, upper_word, held, leaves_in, sv39_leaf, sv39_at, sv39_sizes, sv39_entry, Sv39Table};
-ghost use Rattle.mapping.specs.Sv39Moves.{sv39_falling};
-ghost use Rattle.std.proofs.Common.{rules, arith};
+ghost use Rattle.mapping.specs.Sv39Moves.{sv39_falling, sv39_lawful};
+ghost use Rattle.std.proofs.Common.{arith};
 
 use crate::fit::{asked, fits};
 use crate::hardware::{Geometry, MappingHardware};
@@ -178,11 +178,11 @@ impl Geometry for Sv39 {
 impl MappingHardware for Sv39 {
     ghost at = { λ s. sv39_at s.table.items };
 
-    ghost bounded = { first_of (Prim.search rules, Prim.grind (arith, Self.row.coded.inj)) };
+    ghost bounded = { omega arith };
 
     ghost falling = { sv39_falling };
 
-    ghost lawful = { first_of (Prim.search rules, Prim.grind (arith, Self.row.coded.inj)) };
+    ghost lawful = { λ s. sv39_lawful s.table.items (record { small = s.small; low = s.low; top = s.top }) };
 
     fn leaf(&self, object: u8, page: PageNumber) -> Option<Leaf> {
         if object > 3 || page.0 > 1023 {

@@ -1,4 +1,4 @@
-use Rattle.std.proofs.Common.{◌≡◌, ℕ, ◌+◌, ◌<◌, length, vec_items, vec_len, sym, refl, ap, ◌∙◌, subst, arith}
+use Rattle.std.proofs.Common.{◌≡◌, length, vec_items, vec_len, refl, arith}
 use Rattle.frames.specs.Lists.{appended_none, appended_more}
 use Rattle.frames.proofs.boot_list.append.Goals as goal
 

@@ -1,7 +1,6 @@
-use Rattle.std.proofs.Common.{◌≡◌, ℕ, ◌+◌, ◌<◌, Bool, true, false, length, get_or, sym, refl, ap, ◌∙◌, subst, arith}
+use Rattle.std.proofs.Common.{◌≡◌, ℕ, ◌+◌, ◌<◌, true, false, get_or, sym, refl, ap, ◌∙◌, arith}
 use Rattle.blocks.specs.Bit.{bit}
 use Rattle.blocks.proofs.Digits.{none}
-use Rattle.frames.specs.Listed.{listed}
 use Rattle.frames.proofs.Sets.{tally_none}
 use Rattle.frames.specs.Lists.{row_more, distinct_more, below_more, tally_more}
 use Rattle.frames.proofs.boot_list.row_of.Goals as goal

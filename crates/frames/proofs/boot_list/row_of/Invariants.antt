@@ -1,4 +1,4 @@
-use Rattle.std.proofs.Common.{◌≡◌, ℕ, ◌<◌, Bool, length}
+use Rattle.std.proofs.Common.{◌≡◌, ℕ, length}
 use Rattle.blocks.specs.Bit.{bit}
 use Rattle.frames.specs.Source.{tally}
 use Rattle.frames.specs.Listed.{listed, Distinct, AllBelow}

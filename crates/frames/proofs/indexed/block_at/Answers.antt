@@ -1,4 +1,4 @@
-use Rattle.std.proofs.Common.{◌≡◌, ℕ, ◌*◌, ◌%◌, ◌^◌, ◌∙◌, arith}
+use Rattle.std.proofs.Common.{◌^◌, ◌∙◌, arith}
 use native.Mathlib.Nat.{mul-mod_left}
 use Rattle.blocks.proofs.Spans.{room, small}
 use Rattle.frames.proofs.indexed.block_at.Goals as goal

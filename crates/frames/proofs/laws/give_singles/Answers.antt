@@ -1,4 +1,4 @@
-use Rattle.std.proofs.Common.{◌≡◌, ℕ, ◌+◌, ◌^◌, ◌<◌, true, false, sym, refl, ap, ◌∙◌, subst, arith}
+use Rattle.std.proofs.Common.{◌≡◌, ℕ, ◌+◌, true, false, sym, ap, ◌∙◌, subst, arith}
 use Rattle.blocks.specs.Bit.{bit}
 use Rattle.frames.proofs.Sources.{from, from_none, from_skip, from_step, from_all, tally_next, tally_skip}
 use Rattle.frames.specs.Source.{tally}
@@ -20,8 +20,8 @@ loop-f-preserved g c = λ s l w.
     elim c.if-get.branch [
       | then-get w ↦
           let z : p n ≡ true = sym {b = p n} w.if-get.ensures in
-          let f : w.block-at.result.block.first ≡ n = omega (arith, w.block-at.ensures.0) in
-          let b = from_step p n s (m c.loop-f.source) (m w.give.new.self) w.block-at.result w.give.result l z i.0 f w.block-at.ensures.1 w.give.ensures in
+          let f : w.block_at.result.block.first ≡ n = omega (arith, w.block_at.ensures.0) in
+          let b = from_step p n s (m c.loop-f.source) (m w.give.new.self) w.block_at.result w.give.result l z i.0 f w.block_at.ensures.1 w.give.ensures in
           subst Back {x = w.give.new.self} (sym w.source-is) (b.0, omega (arith, b.1, i.1, tally_next p n z))
       | else-get w ↦
           let z : p n ≡ false = sym {b = p n} w.if-get.ensures in
@@ -37,7 +37,7 @@ returns g c = λ s l w.
       i.1 ∙ ap (λ (x : ℕ). (g.S.FrameSource.means c.args.source.now).avail + tally (bit c.args.taken.now) x) e,
     )
 
-pub block-at-requires : goal.block-at-requires
-block-at-requires g c =
+pub block_at-requires : goal.block_at-requires
+block_at-requires g c =
     let l = g.met.S.FrameSource.lawful c.args.source.now in
     (omega arith, omega (arith, l.small, c.frames-f-end.ensures))

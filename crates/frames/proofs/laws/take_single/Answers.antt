@@ -1,4 +1,4 @@
-use Rattle.std.proofs.Common.{◌≡◌, ℕ, ◌+◌, sym, refl, subst, arith}
+use Rattle.std.proofs.Common.{ℕ, ◌+◌, sym, refl, subst, arith}
 use Rattle.frames.specs.Source.{Joined}
 use Rattle.frames.proofs.Sources.{takes_none, takes_dry}
 use Rattle.frames.proofs.laws.take_single.Goals as goal

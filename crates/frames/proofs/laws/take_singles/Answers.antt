@@ -1,6 +1,6 @@
-use Rattle.std.proofs.Common.{◌≡◌, ℕ, ◌+◌, ◌^◌, ◌<◌, ◌≤◌, true, sym, refl, ap, ◌∙◌, subst, arith}
+use Rattle.std.proofs.Common.{◌≡◌, ℕ, ◌+◌, true, sym, ap, ◌∙◌, subst, arith}
 use Rattle.blocks.specs.Bit.{bit}
-use Rattle.frames.specs.Source.{Source, Took, tally}
+use Rattle.frames.specs.Source.{Source}
 use Rattle.frames.specs.Laws.{Without}
 use Rattle.frames.specs.Tally.{tally_le}
 use Rattle.frames.proofs.Sets.{tally_none}
@@ -26,7 +26,7 @@ loop-frame-preserved g c =
     let m = g.S.FrameSource.means in
     let s = m c.args.source.now in
     let t = m c.loop-frame.source in
-    let u = m c.take-single.new.source in
+    let u = m c.take_single.new.source in
     let i = c.loop-frame.invariant in
     let h = c.in-Some.ensures.1 in
     let p = bit c.loop-frame.taken in
@@ -46,10 +46,10 @@ returns g c =
     let m = g.S.FrameSource.means in
     let i = c.loop-frame.invariant in
     let d = c.in_default.ensures in
-    let e : m c.take-single.new.source ≡ m c.loop-frame.source = d.1 in
-    let z : (m c.take-single.new.source).avail ≡ (m c.loop-frame.source).avail = ap (λ (s : Source). s.avail) e in
+    let e : m c.take_single.new.source ≡ m c.loop-frame.source = d.1 in
+    let z : (m c.take_single.new.source).avail ≡ (m c.loop-frame.source).avail = ap (λ (s : Source). s.avail) e in
     record {
-      without = subst (λ (t : Source). Without (m c.args.source.now) t (bit c.loop-frame.taken)) {x = m c.loop-frame.source} {y = m c.take-single.new.source} (sym e) i.0;
+      without = subst (λ (t : Source). Without (m c.args.source.now) t (bit c.loop-frame.taken)) {x = m c.loop-frame.source} {y = m c.take_single.new.source} (sym e) i.0;
       dry = omega (arith, z, d.0);
       all = omega (arith, d.0, i.1);
       count = i.2;

@@ -1,5 +1,4 @@
-use Rattle.std.proofs.Common.{◌≡◌, ℕ, ◌/◌, ◌^◌, sym, refl, ap, ◌∙◌, arith, below_more}
-use Rattle.blocks.specs.Bit.{bit}
+use Rattle.std.proofs.Common.{arith}
 use Rattle.blocks.proofs.Spans.{below}
 use Rattle.frames.proofs.marks.around.Goals as goal
 

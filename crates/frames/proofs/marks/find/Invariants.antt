@@ -1,4 +1,4 @@
-use Rattle.std.proofs.Common.{◌≡◌, ℕ, ◌+◌, ◌-◌, ◌*◌, ◌^◌, ◌<◌, ◌≤◌, false}
+use Rattle.std.proofs.Common.{◌≡◌, ℕ, ◌-◌, ◌^◌, ◌<◌, ◌≤◌, false}
 use Rattle.blocks.specs.Bit.{bit}
 use Rattle.frames.specs.Maximal.{node}
 use Rattle.frames.proofs.marks.find.Given as goal

@@ -1,7 +1,6 @@
-use Rattle.std.proofs.Common.{◌≡◌, ℕ, suc, ◌+◌, ◌-◌, ◌*◌, ◌/◌, ◌^◌, ◌<◌, ◌≤◌, Bool, sym, refl, ap, ◌∙◌, subst, add-one, arith, pow_mono}
-use Rattle.frames.specs.Maximal.{Splits, Marked, Whole, node}
+use Rattle.std.proofs.Common.{ℕ, ◌-◌, ◌^◌, ◌≤◌, Bool, sym, ap, ◌∙◌, add-one, arith, pow_mono}
 use Rattle.blocks.specs.Bit.{bit}
-use Rattle.frames.proofs.Steps.{merge_start, merge_step, merge_end, merge_last, twin_room, half_room, less}
+use Rattle.frames.proofs.Steps.{merge_start, merge_step, merge_end, merge_last, twin_room, half_room}
 use Rattle.frames.proofs.marks.merge.Goals as goal
 use Rattle.frames.proofs.marks.merge.Goals.{else-loop-j-test, then-loop-j-test+then-not-get}
 

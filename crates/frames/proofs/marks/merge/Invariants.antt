@@ -1,4 +1,4 @@
-use Rattle.std.proofs.Common.{◌≡◌, ℕ, ◌+◌, ◌-◌, ◌*◌, ◌^◌, ◌<◌, ◌≤◌, Bool}
+use Rattle.std.proofs.Common.{ℕ, ◌-◌, ◌^◌, ◌<◌, ◌≤◌, Bool}
 use Rattle.blocks.specs.Bit.{bit}
 use Rattle.frames.specs.Maximal.{Splits, Marked, Whole}
 use Rattle.frames.proofs.Steps.{less}

@@ -1,6 +1,6 @@
-use Rattle.std.proofs.Common.{◌≡◌, ℕ, suc, ◌+◌, ◌-◌, ◌*◌, ◌/◌, ◌^◌, ◌<◌, ◌≤◌, Bool, sym, refl, ap, ◌∙◌, subst, ⊎_elim, arith}
+use Rattle.std.proofs.Common.{◌≡◌, ℕ, ◌-◌, ◌*◌, ◌/◌, ◌^◌, sym, ap, ◌∙◌, subst, ⊎_elim, arith}
 use Rattle.std.proofs.lemmas.Bool.{cases_eq}
-use Rattle.frames.specs.Maximal.{Parts, Marked, node}
+use Rattle.frames.specs.Maximal.{Parts}
 use Rattle.blocks.specs.Bit.{bit}
 use Rattle.frames.proofs.Steps.{split_again, split_room, split_index, marked_same}
 use Rattle.frames.proofs.marks.split.Goals as goal

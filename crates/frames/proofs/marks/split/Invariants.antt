@@ -1,4 +1,4 @@
-use Rattle.std.proofs.Common.{◌≡◌, ℕ, ◌+◌, ◌-◌, ◌*◌, ◌^◌, ◌<◌, ◌≤◌, Bool}
+use Rattle.std.proofs.Common.{◌≡◌, ℕ, ◌-◌, ◌*◌, ◌^◌, ◌<◌, ◌≤◌, Bool}
 use Rattle.blocks.specs.Bit.{bit}
 use Rattle.frames.specs.Maximal.{Parts, Marked}
 use Rattle.frames.proofs.marks.split.Given as goal

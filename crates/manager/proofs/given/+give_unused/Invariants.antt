@@ -1,4 +1,4 @@
 use Rattle.manager.proofs.given.+give_unused.Given as goal
 
-abbrev pub decreases-give-unused : goal.decreases-give-unused
-decreases-give-unused g l = l.frames.block.order
+abbrev pub decreases-give_unused : goal.decreases-give_unused
+decreases-give_unused g l = l.frames.block.order

@@ -1,4 +1,4 @@
-use Rattle.std.proofs.Common.{arith, rules}
+use Rattle.std.proofs.Common.{rules}
 use Rattle.mapping.specs.AlphaFormat.{alpha_word}
 use Rattle.mapping.proofs.alpha.encode.Goals as goal
 

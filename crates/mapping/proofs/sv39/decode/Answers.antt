@@ -1,4 +1,4 @@
-use Rattle.std.proofs.Common.{◌≡◌, sym}
+use Rattle.std.proofs.Common.{sym}
 use Rattle.mapping.specs.Sv39Words.{leaf_is, leaf_not}
 use Rattle.mapping.proofs.sv39.decode.Goals as goal
 

@@ -1,4 +1,4 @@
-use Rattle.std.proofs.Common.{◌≡◌, ℕ, ◌+◌, ◌-◌, ◌*◌, ◌<◌, ◌≤◌, List, length, get_or, vec_items, sym, refl, ap, ◌∙◌, arith, length-set, rules}
+use Rattle.std.proofs.Common.{◌≡◌, ℕ, ◌+◌, ◌-◌, ◌*◌, ◌<◌, ◌≤◌, List, length, get_or, vec_items, ap, ◌∙◌, arith, length-set}
 use Rattle.std.proofs.lemmas.List.{get_or-set_same, get_or-set_other}
 use Rattle.mapping.specs.Sv39Format.{leaves_in}
 use Rattle.mapping.proofs.Counts.{one, one_small, count_small, count_has}
@@ -19,12 +19,12 @@ among xs n i a b =
     omega (arith, h, ap (λ j. one (get_or xs j 0)) e)
 
 pub overflow_add-count : goal.overflow_add-count
-overflow_add-count c = omega (arith, few (vec_items c.args.table.now) c.args.n, c.requires.counted, c.leaf-count.ensures, one_small c.args.entry)
+overflow_add-count c = omega (arith, few (vec_items c.args.table.now) c.args.n, c.requires.counted, c.leaf_count.ensures, one_small c.args.entry)
 
 pub overflow_sub-count : goal.overflow_sub-count
 overflow_sub-count c =
     let a = among (vec_items c.args.table.now) c.args.n c.args.place c.requires.on.0 c.requires.on.1 in
-    omega (arith, a, c.requires.counted, c.leaf-count-2.ensures, ap one c.read-old.ensures)
+    omega (arith, a, c.requires.counted, c.leaf_count-2.ensures, ap one c.read-old.ensures)
 
 pub returns : goal.returns
 returns c =
@@ -35,8 +35,8 @@ returns c =
     let on : On n c.args.place = record { from = c.requires.on.0; below = c.requires.on.1 } in
     let here : get_or ys c.args.place 0 ≡ c.args.entry = let f = on.from in c.set-2.ensures.others c.args.place (λ e. omega arith) ∙ c.set.ensures.here in
     let others : (j : ℕ) → (j ≡ c.args.place → ⊥) → (j ≡ n → ⊥) → get_or ys j 0 ≡ get_or xs j 0 = λ j a b. c.set-2.ensures.others j b ∙ c.set.ensures.others j a in
-    let count : get_or c.args.counts.now n 0 + c.leaf-count.result - c.leaf-count-2.result ≡ leaves_in (λ i. get_or ys i 0) n =
-    omega (arith, laid_count xs ys n c.args.place c.args.entry few on here others, c.requires.counted, c.leaf-count.ensures, c.leaf-count-2.ensures, ap one c.read-old.ensures) in
+    let count : get_or c.args.counts.now n 0 + c.leaf_count.result - c.leaf_count-2.result ≡ leaves_in (λ i. get_or ys i 0) n =
+    omega (arith, laid_count xs ys n c.args.place c.args.entry few on here others, c.requires.counted, c.leaf_count.ensures, c.leaf_count-2.ensures, ap one c.read-old.ensures) in
     let long : length c.args.counts.now ≡ 8 = c.requires.shape.1.1 in
     record {
       long = c.set-2.ensures.length ∙ c.set.ensures.length;

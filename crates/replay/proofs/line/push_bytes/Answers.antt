@@ -5,9 +5,9 @@ use Rattle.replay.proofs.line.push_bytes.Goals as goal
 
 pub loop-byte-preserved : goal.loop-byte-preserved
 loop-byte-preserved c = (
-  λ h. let i = c.loop-byte.invariant.0 h in let k = c.push-byte-to.ensures.within (omega arith) in omega arith,
+  λ h. let i = c.loop-byte.invariant.0 h in let k = c.push_byte-to.ensures.within (omega arith) in omega arith,
   λ h. let i = c.loop-byte.invariant.1 h in
-      adds_more _ _ c.loop-byte-test.true i (c.push-byte-to.ensures.adds (omega (arith, i.stops, length-take c.loop-byte.byte-index c.args.bytes.now))),
+      adds_more _ _ c.loop-byte-test.true i (c.push_byte-to.ensures.adds (omega (arith, i.stops, length-take c.loop-byte.byte-index c.args.bytes.now))),
 )
 
 pub loop-byte-init : goal.loop-byte-init

@@ -6,10 +6,10 @@ use Rattle.replay.proofs.line.push_fields.Goals as goal
 
 pub loop-number-preserved : goal.loop-number-preserved
 loop-number-preserved c = (
-  λ h. let i = c.loop-number.invariant.0 h in let k = c.push-field-to.ensures.within (omega arith) in omega arith,
+  λ h. let i = c.loop-number.invariant.0 h in let k = c.push_field-to.ensures.within (omega arith) in omega arith,
   λ h. let i = c.loop-number.invariant.1 h in
       adds_more_fields _ _ c.loop-number-test.true i
-      (c.push-field-to.ensures.adds (omega (arith, i.stops, fields_room c.args.numbers.now c.loop-number.number-index c.loop-number-test.true))),
+      (c.push_field-to.ensures.adds (omega (arith, i.stops, fields_room c.args.numbers.now c.loop-number.number-index c.loop-number-test.true))),
 )
 
 pub loop-number-init : goal.loop-number-init

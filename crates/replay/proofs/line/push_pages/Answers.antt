@@ -6,10 +6,10 @@ use Rattle.replay.proofs.line.push_pages.Goals as goal
 
 pub loop-page-preserved : goal.loop-page-preserved
 loop-page-preserved c = (
-  λ h. let i = c.loop-page.invariant.0 h in let k = c.push-field-to.ensures.within (omega arith) in omega arith,
+  λ h. let i = c.loop-page.invariant.0 h in let k = c.push_field-to.ensures.within (omega arith) in omega arith,
   λ h. let i = c.loop-page.invariant.1 h in
       adds_more_fields _ _ c.loop-page-test.true i
-      (c.push-field-to.ensures.adds (omega (arith, i.stops, fields_room c.args.pages.now c.loop-page.page-index c.loop-page-test.true))),
+      (c.push_field-to.ensures.adds (omega (arith, i.stops, fields_room c.args.pages.now c.loop-page.page-index c.loop-page-test.true))),
 )
 
 pub loop-page-init : goal.loop-page-init

@@ -7,8 +7,8 @@ pub returns : goal.returns
 unfolding title
 returns c =
     record {
-      within = let a = c.push-bytes-end.ensures.within (omega arith) in let z = c.push-byte.ensures.within (omega arith) in omega arith;
+      within = let a = c.push_bytes-end.ensures.within (omega arith) in let z = c.push_byte.ensures.within (omega arith) in omega arith;
       adds = λ h.
-          let a = c.push-bytes-end.ensures.adds (omega arith) in
-          adds_as refl (adds_then a (c.push-byte.ensures.adds (omega (arith, a.stops))));
+          let a = c.push_bytes-end.ensures.adds (omega arith) in
+          adds_as refl (adds_then a (c.push_byte.ensures.adds (omega (arith, a.stops))));
     }

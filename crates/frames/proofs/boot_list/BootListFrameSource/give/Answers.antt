@@ -1,9 +1,8 @@
-use Rattle.std.proofs.Common.{◌≡◌, ℕ, ◌+◌, ◌-◌, ◌*◌, ◌/◌, ◌^◌, ◌<◌, ◌≤◌, Bool, true, false, List, length, vec_items, vec_len, sym, refl, ap, ◌∙◌, subst, arith}
+use Rattle.std.proofs.Common.{◌≡◌, ℕ, ◌+◌, ◌^◌, ◌≤◌, vec_items, sym, refl, ap, ◌∙◌, subst, arith}
 use Rattle.blocks.specs.Bit.{bit}
 use Rattle.blocks.specs.declared.aligned.AlignedBlock.{AlignedBlock}
-use Rattle.frames.specs.declared.boot_list.BootList.{BootList}
-use Rattle.frames.specs.Source.{tally, Joined}
-use Rattle.frames.specs.Listed.{listed, Appended, Distinct, AllBelow}
+use Rattle.frames.specs.Source.{Joined}
+use Rattle.frames.specs.Listed.{listed, Distinct, AllBelow}
 use Rattle.frames.specs.Lists.{added_room, added_row, added_distinct, added_below, added_joined}
 use Rattle.frames.specs.Tally.{tally_joined}
 use Rattle.frames.proofs.boot_list.BootListFrameSource.give.Goals as goal
@@ -50,32 +49,18 @@ invariant_of-self c =
     let r = inside c in
     let m = added_room (bit s.free) s.filled b.first (2 ^ b.order) s.frames s.counted r j.was in
     let t = tally_joined (bit s.free) (bit c.fill.new.words) b.first (2 ^ b.order) s.frames j r in
-    let n = ap (λ (x : ℕ). s.filled + x) (sym z) in (
-      s.some,
-      (
-        s.small,
-        (
-          c.append.ensures.len ∙ s.room,
-          (
-            omega (arith, m, z),
-            (
-              c.fill.auto.words ∙ s.long,
-              (
-                subst (λ (k : ℕ). AllBelow ys k s.frames) n (added_below xs ys s.filled b.first (2 ^ b.order) s.frames w s.below r),
-                (
-                  subst (λ (k : ℕ). Distinct ys k) n (added_distinct xs ys s.filled b.first (2 ^ b.order) w s.distinct (λ f u v. sym (s.row f) ∙ j.was f u v)),
-                  (
-                    subst (λ (k : ℕ). (f : ℕ) → bit c.fill.new.words f ≡ listed ys k f) n
-                        (added_row xs ys (bit s.free) (bit c.fill.new.words) s.filled b.first (2 ^ b.order) w s.row j.is j.below j.above),
-                    (omega (arith, t, s.counted, z), tt),
-                  ),
-                ),
-              ),
-            ),
-          ),
-        ),
-      ),
-    )
+    let n = ap (λ (x : ℕ). s.filled + x) (sym z) in record {
+      some = s.some;
+      small = s.small;
+      room = c.append.ensures.len ∙ s.room;
+      fits = omega (arith, m, z);
+      long = c.fill.auto.words ∙ s.long;
+      below = subst (λ (k : ℕ). AllBelow ys k s.frames) n (added_below xs ys s.filled b.first (2 ^ b.order) s.frames w s.below r);
+      distinct = subst (λ (k : ℕ). Distinct ys k) n (added_distinct xs ys s.filled b.first (2 ^ b.order) w s.distinct (λ f u v. sym (s.row f) ∙ j.was f u v));
+      row = subst (λ (k : ℕ). (f : ℕ) → bit c.fill.new.words f ≡ listed ys k f) n
+          (added_row xs ys (bit s.free) (bit c.fill.new.words) s.filled b.first (2 ^ b.order) w s.row j.is j.below j.above);
+      counted = omega (arith, t, s.counted, z);
+    }
 
 pub returns : goal.returns
 returns c =

@@ -1,8 +1,7 @@
-use Rattle.std.proofs.Common.{◌≡◌, ℕ, ◌+◌, ◌-◌, ◌*◌, ◌^◌, ◌<◌, ◌≤◌, Bool, true, false, length, get_or, vec_items, vec_len, sym, refl, ap, ◌∙◌, subst, arith}
+use Rattle.std.proofs.Common.{◌≡◌, ℕ, ◌+◌, ◌-◌, ◌^◌, ◌<◌, true, false, length, get_or, vec_items, vec_len, sym, refl, ap, ◌∙◌, subst, arith}
 use Rattle.std.proofs.lemmas.List.{get_or_read}
 use Rattle.blocks.specs.Bit.{bit}
 use Rattle.frames.specs.declared.boot_list.BootList.{BootList}
-use Rattle.frames.specs.Listed.{listed}
 use Rattle.frames.specs.Lists.{row_less, tally_more, last_joined, listed_at}
 use Rattle.frames.proofs.boot_list.BootListFrameSource.take.Goals as goal
 
@@ -15,8 +14,8 @@ last s x z e =
     let h = s.below (s.filled - 1) (omega arith) in
     (y, omega (arith, y, h), s.row x ∙ listed_at (vec_items s.places) s.filled (s.filled - 1) x (omega arith) (sym y))
 
-pub block-at-block-requires : goal.block-at-block-requires
-block-at-block-requires c =
+pub block_at-block-requires : goal.block_at-block-requires
+block_at-block-requires c =
     let s = c.args.self.now in
     let l = last s c.index-frame.result.now c.if-self-eq0.false c.index-frame.ensures in
     (omega arith, omega (arith, l.1, s.small))
@@ -30,32 +29,18 @@ invariant_of-self c =
     let b = bit s.free in
     let b' = bit c.clear.new.words in
     let z : 0 < s.filled = omega (arith, c.if-self-eq0.false) in
-    let t = tally_more b' b x s.frames l.1 c.clear.ensures.here l.2 (λ f o. sym (c.clear.ensures.others f o)) in (
-      s.some,
-      (
-        s.small,
-        (
-          s.room,
-          (
-            omega (arith, s.fits),
-            (
-              c.clear.auto.words ∙ s.long,
-              (
-                λ i v. s.below i (omega arith),
-                (
-                  λ i v. s.distinct i (omega arith),
-                  (
-                    row_less xs b b' s.filled z s.distinct s.row (subst (λ (y : ℕ). b' y ≡ false) l.0 c.clear.ensures.here)
-                        (subst (λ (y : ℕ). (f : ℕ) → (f ≡ y → ⊥) → b' f ≡ b f) l.0 c.clear.ensures.others),
-                    (omega (arith, t, s.counted), tt),
-                  ),
-                ),
-              ),
-            ),
-          ),
-        ),
-      ),
-    )
+    let t = tally_more b' b x s.frames l.1 c.clear.ensures.here l.2 (λ f o. sym (c.clear.ensures.others f o)) in record {
+      some = s.some;
+      small = s.small;
+      room = s.room;
+      fits = omega (arith, s.fits);
+      long = c.clear.auto.words ∙ s.long;
+      below = λ i v. s.below i (omega arith);
+      distinct = λ i v. s.distinct i (omega arith);
+      row = row_less xs b b' s.filled z s.distinct s.row (subst (λ (y : ℕ). b' y ≡ false) l.0 c.clear.ensures.here)
+          (subst (λ (y : ℕ). (f : ℕ) → (f ≡ y → ⊥) → b' f ≡ b f) l.0 c.clear.ensures.others);
+      counted = omega (arith, t, s.counted);
+    }
 
 pub returns : goal.returns
 returns c =
@@ -64,13 +49,13 @@ returns c =
     let z : 0 < s.filled = omega (arith, c.if-self-eq0.false) in
     let k : c.args.order ≡ 0 = omega (arith, c.if-order-gt0.false) in
     let p : 2 ^ c.args.order ≡ 1 = ap (λ (x : ℕ). 2 ^ x) k in
-    let b : c.block-at-block.result.block.first ≡ c.index-frame.result.now = omega (arith, c.block-at-block.ensures.0) in
+    let b : c.block_at-block.result.block.first ≡ c.index-frame.result.now = omega (arith, c.block_at-block.ensures.0) in
     record {
       takes = record {
         small = omega (arith, k);
-        order = c.block-at-block.ensures.1 ∙ sym k;
+        order = c.block_at-block.ensures.1 ∙ sym k;
         total = refl;
-        free = last_joined (vec_items s.places) s.filled c.block-at-block.result.block.first _ z s.distinct (b ∙ l.0) (ap (λ (x : ℕ). c.block-at-block.result.block.first + x) p);
+        free = last_joined (vec_items s.places) s.filled c.block_at-block.result.block.first _ z s.distinct (b ∙ l.0) (ap (λ (x : ℕ). c.block_at-block.result.block.first + x) p);
         avail = omega (arith, p, z);
       };
       last = (k, omega (arith, z), b ∙ l.0);

@@ -1,4 +1,4 @@
-use Rattle.std.proofs.Common.{◌≡◌, ℕ, ◌-◌, ◌^◌, ◌<◌, true, false, sym, subst, ⊎_elim, arith}
+use Rattle.std.proofs.Common.{◌≡◌, ℕ, ◌-◌, ◌^◌, ◌<◌, true, sym, subst, ⊎_elim, arith}
 use Rattle.std.proofs.lemmas.Bool.{cases_Bool}
 use Rattle.blocks.specs.Bit.{bit}
 use Rattle.blocks.proofs.Spans.{below}
@@ -17,8 +17,8 @@ room c =
     subst (λ (n : ℕ). n < 2 ^ (11 - c.in-Some.found.order)) (sym x.1)
     (below c.in-Some.found.order c.args.frame.0 x.0 (omega (arith, c.if-frame-self.false, c.args.self.now.small)))
 
-pub block-at-requires : goal.block-at-requires
-block-at-requires c = (c.in-Some.ensures.0, room c)
+pub block_at-requires : goal.block_at-requires
+block_at-requires c = (c.in-Some.ensures.0, room c)
 
 pub returns-then-frame-self : goal.returns-then-frame-self
 returns-then-frame-self c =
@@ -35,5 +35,5 @@ pub returns-in-Some : goal.returns-in-Some
 returns-in-Some c =
     let s = c.args.self.now in
     let x = c.in-Some.ensures in
-    tile (bit s.marks) (bit s.free) c.in-Some.found.order c.in-Some.found.index c.args.frame.0 c.block-at.result.block.first c.block-at.result.block.order
-    (marked s) x.0 (room (goal.at.returns-in-Some c).In-Some) x.1 x.2 c.block-at.ensures.0 c.block-at.ensures.1
+    tile (bit s.marks) (bit s.free) c.in-Some.found.order c.in-Some.found.index c.args.frame.0 c.block_at.result.block.first c.block_at.result.block.order
+    (marked s) x.0 (room (goal.at.returns-in-Some c).In-Some) x.1 x.2 c.block_at.ensures.0 c.block_at.ensures.1

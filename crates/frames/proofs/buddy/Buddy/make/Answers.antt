@@ -1,4 +1,4 @@
-use Rattle.std.proofs.Common.{◌≡◌, ℕ, ◌+◌, ◌-◌, ◌*◌, ◌/◌, ◌^◌, ◌<◌, ◌≤◌, Bool, true, false, length, replicate, sym, refl, ap, ◌∙◌, subst, ⊎_elim, arith}
+use Rattle.std.proofs.Common.{◌≡◌, ◌<◌, ◌≤◌, true, replicate, sym, refl, ap, ◌∙◌, ⊎_elim, arith}
 use Rattle.std.proofs.lemmas.Bool.{both_ways, cases_lt, cases_eq}
 use Rattle.blocks.specs.Bit.{bit}
 use Rattle.blocks.proofs.Digits.{none}
@@ -31,22 +31,14 @@ invariant_of-result c =
     let i = c.loop-f.invariant in
     let n = c.args.accepted.frames in
     let m = bit c.loop-f.free in
-    let b = bit c.loop-f.marks in (
-      c.args.accepted.some,
-      (
-        c.args.accepted.small,
-        (
-          i.0,
-          (
-            i.1,
-            (
-              λ f t. ⊎_elim (λ (l : f < n). l) (λ (g : n ≤ f). absurd (both_ways (m f) (i.3 f (omega arith)) t)) (cases_lt f n),
-              (
-                sym (tally_all m n (λ f l. i.2 f (omega arith))),
-                (whole_from b m i.4, (alone_from b m i.4, (full_from b m i.4, tt))),
-              ),
-            ),
-          ),
-        ),
-      ),
-    )
+    let b = bit c.loop-f.marks in record {
+      some = c.args.accepted.some;
+      small = c.args.accepted.small;
+      long = i.0;
+      deep = i.1;
+      within = λ f t. ⊎_elim (λ (l : f < n). l) (λ (g : n ≤ f). absurd (both_ways (m f) (i.3 f (omega arith)) t)) (cases_lt f n);
+      counted = sym (tally_all m n (λ f l. i.2 f (omega arith)));
+      whole = whole_from b m i.4;
+      alone = alone_from b m i.4;
+      all = full_from b m i.4;
+    }

@@ -1,4 +1,4 @@
-use Rattle.std.proofs.Common.{◌≡◌, ℕ, ◌+◌, ◌*◌, ◌^◌, ◌<◌, ◌≤◌, true, false, length}
+use Rattle.std.proofs.Common.{◌≡◌, ℕ, ◌<◌, ◌≤◌, true, false, length}
 use Rattle.blocks.specs.Bit.{bit}
 use Rattle.frames.specs.Maximal.{Marked}
 use Rattle.frames.proofs.buddy.Buddy.make.Given as goal

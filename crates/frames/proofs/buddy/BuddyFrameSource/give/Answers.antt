@@ -1,4 +1,4 @@
-use Rattle.std.proofs.Common.{◌≡◌, ℕ, ◌+◌, ◌-◌, ◌*◌, ◌/◌, ◌^◌, ◌<◌, ◌≤◌, Bool, true, false, sym, refl, ap, ◌∙◌, subst, arith}
+use Rattle.std.proofs.Common.{◌≡◌, ℕ, ◌+◌, ◌*◌, ◌^◌, ◌<◌, ◌≤◌, true, sym, refl, ap, ◌∙◌, arith}
 use Rattle.blocks.specs.Bit.{bit}
 use Rattle.blocks.specs.declared.aligned.AlignedBlock.{AlignedBlock}
 use Rattle.frames.specs.Source.{tally, Joined}
@@ -45,25 +45,17 @@ invariant_of-self c =
     let s = c.args.self.now in
     let t = gave c in
     let m = bit c.merge.new.marks in
-    let f = bit c.fill.new.words in (
-      s.some,
-      (
-        s.small,
-        (
-          c.fill.auto.words ∙ s.long,
-          (
-            c.merge.auto.marks ∙ s.deep,
-            (
-              t.3,
-              (
-                omega (arith, s.counted, t.2, size c),
-                (whole_from m f t.1, (alone_from m f t.1, (full_from m f t.1, tt))),
-              ),
-            ),
-          ),
-        ),
-      ),
-    )
+    let f = bit c.fill.new.words in record {
+      some = s.some;
+      small = s.small;
+      long = c.fill.auto.words ∙ s.long;
+      deep = c.merge.auto.marks ∙ s.deep;
+      within = t.3;
+      counted = omega (arith, s.counted, t.2, size c);
+      whole = whole_from m f t.1;
+      alone = alone_from m f t.1;
+      all = full_from m f t.1;
+    }
 
 pub returns : goal.returns
 returns c =

@@ -1,4 +1,4 @@
-use Rattle.std.proofs.Common.{◌≡◌, ℕ, ◌+◌, ◌-◌, ◌*◌, ◌/◌, ◌^◌, ◌<◌, ◌≤◌, Bool, true, sym, refl, ap, ◌∙◌, subst, arith}
+use Rattle.std.proofs.Common.{◌≡◌, ℕ, ◌+◌, ◌^◌, ◌<◌, true, refl, ap, ◌∙◌, subst, arith}
 use Rattle.blocks.specs.Bit.{bit}
 use Rattle.blocks.specs.declared.aligned.AlignedBlock.{AlignedBlock}
 use Rattle.frames.specs.Source.{tally, Joined}
@@ -7,33 +7,33 @@ use Rattle.frames.proofs.Sets.{take_all, marked_from, whole_from, alone_from, fu
 use Rattle.frames.proofs.buddy.BuddyFrameSource.take.Goals as goal
 use Rattle.frames.proofs.buddy.BuddyFrameSource.take.Goals.{After-count}
 
-pub block-at-block-requires : goal.block-at-block-requires
-block-at-block-requires c =
+pub block_at-block-requires : goal.block_at-block-requires
+block_at-block-requires c =
     let x = c.in-Some.ensures in (
       omega arith,
       cut_room c.in-Some.found.order c.in-Some.found.index c.args.order c.split-index.result x.0 x.1 x.2 c.split-index.ensures.place,
     )
 
 took : (c : goal.After-count) →
-    Joined (bit c.wipe.new.words) (bit c.args.self.now.free) c.block-at-block.result.block.first (c.block-at-block.result.block.first + 2 ^ c.args.order)
+    Joined (bit c.wipe.new.words) (bit c.args.self.now.free) c.block_at-block.result.block.first (c.block_at-block.result.block.first + 2 ^ c.args.order)
     × Marked (bit c.split-index.new.marks) (bit c.wipe.new.words)
     × (tally (bit c.args.self.now.free) c.args.self.now.frames ≡ tally (bit c.wipe.new.words) c.args.self.now.frames + 2 ^ c.args.order)
     × ((f : ℕ) → bit c.wipe.new.words f ≡ true → f < c.args.self.now.frames)
 took c =
     let s = c.args.self.now in
     let x = c.in-Some.ensures in
-    let n : c.numbers.result.first ≡ c.block-at-block.result.block.first = ap (λ (b : AlignedBlock). b.first) c.numbers.ensures in
-    let o : c.numbers.result.order ≡ c.block-at-block.result.block.order = ap (λ (b : AlignedBlock). b.order) c.numbers.ensures in
+    let n : c.numbers.result.first ≡ c.block_at-block.result.block.first = ap (λ (b : AlignedBlock). b.first) c.numbers.ensures in
+    let o : c.numbers.result.order ≡ c.block_at-block.result.block.order = ap (λ (b : AlignedBlock). b.order) c.numbers.ensures in
     let t = take_all (bit s.marks) (bit c.clear.new.words) (bit c.split-index.new.marks) (bit s.free) (bit c.wipe.new.words)
     c.in-Some.found.order c.in-Some.found.index c.args.order c.split-index.result c.place.result c.numbers.result.first c.numbers.result.order s.frames
     x.0 x.1 x.2 c.split-index.ensures.place
     (marked_from (bit s.marks) (bit s.free) s.whole s.alone s.all) s.within
     c.place.ensures.0 (ap (bit s.marks) c.place.ensures.0 ∙ x.3) c.clear.ensures.here c.clear.ensures.others c.split-index.ensures.marked
-    (n ∙ c.block-at-block.ensures.0) (o ∙ c.block-at-block.ensures.1) c.wipe.ensures.here c.wipe.ensures.below c.wipe.ensures.above in
+    (n ∙ c.block_at-block.ensures.0) (o ∙ c.block_at-block.ensures.1) c.wipe.ensures.here c.wipe.ensures.below c.wipe.ensures.above in
     (subst (λ (b : ℕ). Joined (bit c.wipe.new.words) (bit s.free) b (b + 2 ^ c.args.order)) n t.0, t.1, t.2, t.3)
 
 size : (c : goal.After-count) → c.count.result ≡ 2 ^ c.args.order
-size c = c.count.ensures ∙ ap (λ (x : ℕ). 2 ^ x) c.block-at-block.ensures.1
+size c = c.count.ensures ∙ ap (λ (x : ℕ). 2 ^ x) c.block_at-block.ensures.1
 
 pub overflow_sub-self : goal.overflow_sub-self
 overflow_sub-self c = let t = (took c).2 in let z = size c in let k = c.args.self.now.counted in omega (arith, t, z, k)
@@ -44,25 +44,17 @@ invariant_of-self c =
     let t = took c in
     let z = size c in
     let m = bit c.split-index.new.marks in
-    let f = bit c.wipe.new.words in (
-      s.some,
-      (
-        s.small,
-        (
-          c.wipe.auto.words ∙ s.long,
-          (
-            c.split-index.auto.marks ∙ c.clear.auto.words ∙ s.deep,
-            (
-              t.3,
-              (
-                omega (arith, s.counted, t.2, z),
-                (whole_from m f t.1, (alone_from m f t.1, (full_from m f t.1, tt))),
-              ),
-            ),
-          ),
-        ),
-      ),
-    )
+    let f = bit c.wipe.new.words in record {
+      some = s.some;
+      small = s.small;
+      long = c.wipe.auto.words ∙ s.long;
+      deep = c.split-index.auto.marks ∙ c.clear.auto.words ∙ s.deep;
+      within = t.3;
+      counted = omega (arith, s.counted, t.2, z);
+      whole = whole_from m f t.1;
+      alone = alone_from m f t.1;
+      all = full_from m f t.1;
+    }
 
 pub returns-in-None : goal.returns-in-None
 returns-in-None c =
@@ -87,9 +79,9 @@ returns-in-Some c =
     let t = took a in
     let z = size a in
     record {
-      takes = record { small = omega arith; order = c.block-at-block.ensures.1; total = refl; free = t.0; avail = omega (arith, s.counted, t.2, z) };
-      chooses = take_lowest (bit s.marks) (bit s.free) c.in-Some.found.order c.in-Some.found.index c.args.order c.split-index.result c.block-at-block.result.block.first s.frames
+      takes = record { small = omega arith; order = c.block_at-block.ensures.1; total = refl; free = t.0; avail = omega (arith, s.counted, t.2, z) };
+      chooses = take_lowest (bit s.marks) (bit s.free) c.in-Some.found.order c.in-Some.found.index c.args.order c.split-index.result c.block_at-block.result.block.first s.frames
           s.small s.within (marked_from (bit s.marks) (bit s.free) s.whole s.alone s.all)
-          x.0 x.1 x.2 x.3 x.4 x.5 c.split-index.ensures.place c.block-at-block.ensures.0;
+          x.0 x.1 x.2 x.3 x.4 x.5 c.split-index.ensures.place c.block_at-block.ensures.0;
       kept = tt;
     }

@@ -3,4 +3,4 @@ use Rattle.manager.specs.Arguments.{Decides, or_else}
 use Rattle.manager.proofs.state.Manager.check_word.Goals as goal
 
 pub returns : goal.returns
-returns g c = simp c.in_ok-check-memory.ensures.0 c.size-at-word.ensures
+returns g c = simp c.in_ok-check_memory.ensures.0 c.size_at_word.ensures

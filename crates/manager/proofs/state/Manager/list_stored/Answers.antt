@@ -2,7 +2,7 @@ use Rattle.std.proofs.Common.{◌≡◌, ℕ, ◌+◌, ◌≤◌, sym, ap, ◌�
 use Rattle.manager.specs.Arguments.{stored_below}
 use Rattle.manager.proofs.Stored.{stored_few, stored_none, stored_more, stored_same, stored_rises}
 use Rattle.manager.proofs.state.Manager.list_stored.Goals as goal
-use Rattle.manager.proofs.state.Manager.list_stored.Goals.{then-is-stored+then-count-list, else-is-stored, else-is-stored-via-then-is-stored+else-count-list, else-is-stored-via-else-is-stored}
+use Rattle.manager.proofs.state.Manager.list_stored.Goals.{then-is_stored+then-count-list, else-is_stored, else-is_stored-via-then-is_stored+else-count-list, else-is_stored-via-else-is_stored}
 
 pub loop-page-init : goal.loop-page-init
 loop-page-init g c = let z = stored_none (g.H.MappingHardware.at c.args.self.now.hardware c.args.object) in (omega arith, omega arith, λ _. sym z)
@@ -13,18 +13,18 @@ overflow_add-count g c = let i = c.loop-page.invariant in let f = stored_few (g.
 pub loop-page-preserved : goal.loop-page-preserved
 loop-page-preserved g c =
     let i = c.loop-page.invariant in
-    let e = c.is-stored.ensures in
-    let k = c.if-is-stored.auto.list in
-    elim c.if-is-stored.branch [
-      | then-is-stored+then-count-list w ↦
-          let s = stored_more (g.H.MappingHardware.at c.args.self.now.hardware c.args.object) c.loop-page.page (sym e ∙ w.if-is-stored.true) in
+    let e = c.is_stored.ensures in
+    let k = c.if-is_stored.auto.list in
+    elim c.if-is_stored.branch [
+      | then-is_stored+then-count-list w ↦
+          let s = stored_more (g.H.MappingHardware.at c.args.self.now.hardware c.args.object) c.loop-page.page (sym e ∙ w.if-is_stored.true) in
           (omega (arith, w.count-is, s, i.0), omega (arith, w.count-is, k, w.if-count-list.true), λ h. let q = i.2 (omega (arith, s, k)) in omega (arith, w.count-is, s, q))
-      | else-is-stored w ↦ elim w.else-is-stored.branch [
-        | else-is-stored-via-then-is-stored+else-count-list v ↦
-            let s = stored_more (g.H.MappingHardware.at c.args.self.now.hardware c.args.object) c.loop-page.page (sym e ∙ v.if-is-stored.true) in
+      | else-is_stored w ↦ elim w.else-is_stored.branch [
+        | else-is_stored-via-then-is_stored+else-count-list v ↦
+            let s = stored_more (g.H.MappingHardware.at c.args.self.now.hardware c.args.object) c.loop-page.page (sym e ∙ v.if-is_stored.true) in
             (omega (arith, w.count-is, s, i.0), omega (arith, w.count-is, k, i.1), λ h. absurd (let q = i.2 (omega (arith, s, k)) in omega (arith, s, k, q, v.if-count-list.false)))
-        | else-is-stored-via-else-is-stored v ↦
-            let s = stored_same (g.H.MappingHardware.at c.args.self.now.hardware c.args.object) c.loop-page.page (sym e ∙ v.if-is-stored.false) in
+        | else-is_stored-via-else-is_stored v ↦
+            let s = stored_same (g.H.MappingHardware.at c.args.self.now.hardware c.args.object) c.loop-page.page (sym e ∙ v.if-is_stored.false) in
             (omega (arith, w.count-is, s, i.0), omega (arith, w.count-is, k, i.1), λ h. let q = i.2 (omega (arith, s, k)) in omega (arith, w.count-is, s, q))
       ]
     ]

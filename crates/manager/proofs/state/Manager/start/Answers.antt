@@ -6,8 +6,8 @@ use Rattle.manager.proofs.state.Manager.start.Goals as goal
 pub loop-object-preserved : goal.loop-object-preserved
 loop-object-preserved g c =
     below_more _ _
-    (λ o h p. c.clear-object.ensures.apart o p (λ e. omega arith) ∙ c.loop-object.invariant o h p)
-    (λ p. c.clear-object.ensures.none p)
+    (λ o h p. c.clear_object.ensures.apart o p (λ e. omega arith) ∙ c.loop-object.invariant o h p)
+    (λ p. c.clear_object.ensures.none p)
 
 pub returns : goal.returns
 returns g c =

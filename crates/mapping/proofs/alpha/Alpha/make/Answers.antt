@@ -1,4 +1,4 @@
-use Rattle.std.proofs.Common.{◌≡◌, ℕ, ◌+◌, ◌*◌, get_or, vec_items, sym, refl, ◌∙◌}
+use Rattle.std.proofs.Common.{◌≡◌, ℕ, get_or, vec_items, sym, ◌∙◌}
 use Rattle.mapping.proofs.AlphaCalls.{blank_sound, blank_none, all_zero}
 use Rattle.mapping.proofs.alpha.Alpha.make.Goals as goal
 use Rattle.mapping.proofs.alpha.Alpha.make.Goals.{After-write}
@@ -10,7 +10,11 @@ zero c =
 pub invariant_of-result : goal.invariant_of-result
 invariant_of-result c =
     let s = blank_sound (vec_items c.write.new.table) (zero c) in
-    (c.write.ensures.length ∙ c.args.accepted.long, (s.small, (s.same, tt)))
+    record {
+      long = c.write.ensures.length ∙ c.args.accepted.long;
+      small = s.small;
+      same = s.same;
+    }
 
 pub returns : goal.returns
 returns c =

@@ -1,4 +1,4 @@
-use Rattle.std.proofs.Common.{◌≡◌, ℕ, ◌+◌, ◌*◌, ◌/◌, ◌^◌, ◌<◌, ◌≤◌, List, length, get_or, None, vec_items, sym, refl, ap, ◌∙◌, subst, inl, inr, arith, pow_mono}
+use Rattle.std.proofs.Common.{◌≡◌, ℕ, ◌+◌, ◌*◌, ◌/◌, ◌^◌, ◌≤◌, List, get_or, None, vec_items, sym, refl, ap, ◌∙◌, subst, inl, inr, arith, pow_mono}
 use Rattle.mapping.specs.Leaves.{Cleared}
 use Rattle.mapping.specs.AlphaFormat.{order_in, alpha_at}
 use Rattle.mapping.specs.AlphaWords.{Order, hinted}
@@ -30,17 +30,17 @@ returns-then-entry-eq0 c =
 
 pub write-requires : goal.write-requires
 write-requires c =
-    let k = c.order-of-order.result in
-    let r : Order k = subst Order (sym c.order-of-order.ensures.0) (hinted _) in
+    let k = c.order_of-order.result in
+    let r : Order k = subst Order (sym c.order_of-order.ensures.0) (hinted _) in
     let f : c.args.page.0 / 2 ^ k * 2 ^ k + 2 ^ k ≤ 1024 = fits_object k c.args.page.0 r (omega arith) in
-    let m : 2 ^ k ≤ 2 ^ 9 = pow_mono c.order-of-order.ensures.1 in
+    let m : 2 ^ k ≤ 2 ^ 9 = pow_mono c.order_of-order.ensures.1 in
     let l = c.args.self.now.long in
     (omega arith, (omega arith, omega arith))
 
 -- once the entries are written
 done : (c : After-write)
     → Sound (λ i. get_or (vec_items c.write.new.table) i 0)
-    × Cleared (alpha_at (vec_items c.args.self.now.table)) (alpha_at (vec_items c.write.new.table)) c.args.object c.args.page.0 c.order-of-order.result
+    × Cleared (alpha_at (vec_items c.args.self.now.table)) (alpha_at (vec_items c.write.new.table)) c.args.object c.args.page.0 c.order_of-order.result
 done c =
     let xs : List ℕ = vec_items c.args.self.now.table in
     let ys : List ℕ = vec_items c.write.new.table in
@@ -48,13 +48,17 @@ done c =
     let r = c.read-entry.ensures ∙ ap (λ i. get_or xs i 0) c.place.ensures in
     let w = written xs ys _ _ _ _ _ _ _ (c.place-start.ensures ∙ ap (λ f. c.args.object * 1024 + f) c.floor.ensures) c.span.ensures refl c.write.ensures.inside c.write.ensures.lower c.write.ensures.upper in
     let some : get_or xs (c.args.object * 1024 + c.args.page.0) 0 ≡ 0 → ⊥ = λ z. c.if-entry-eq0.false (r ∙ z) in
-    let is = c.order-of-order.ensures.0 ∙ ap order_in r in (
-      cleared_sound xs ys c.args.object c.args.page.0 sound (omega arith) (omega arith) some c.order-of-order.result is w,
-      cleared xs ys c.args.object c.args.page.0 sound (omega arith) (omega arith) some c.order-of-order.result is w,
+    let is = c.order_of-order.ensures.0 ∙ ap order_in r in (
+      cleared_sound xs ys c.args.object c.args.page.0 sound (omega arith) (omega arith) some c.order_of-order.result is w,
+      cleared xs ys c.args.object c.args.page.0 sound (omega arith) (omega arith) some c.order_of-order.result is w,
     )
 
 pub invariant_of-self : goal.invariant_of-self
-invariant_of-self c = let s = (done c).0 in (c.write.ensures.length ∙ c.args.self.now.long, (s.small, (s.same, tt)))
+invariant_of-self c = let s = (done c).0 in record {
+  long = c.write.ensures.length ∙ c.args.self.now.long;
+  small = s.small;
+  same = s.same;
+}
 
 pub returns : goal.returns
 returns c =

@@ -1,4 +1,4 @@
-use Rattle.std.proofs.Common.{◌≡◌, ◌+◌, ◌*◌, ◌^◌, ◌<◌, get_or, vec_items, sym, ap, ◌∙◌, subst, inl, inr, arith}
+use Rattle.std.proofs.Common.{◌^◌, ◌<◌, get_or, vec_items, sym, ap, ◌∙◌, subst, inl, inr, arith}
 use Rattle.mapping.specs.AlphaFormat.{alpha_leaf}
 use Rattle.mapping.specs.AlphaLeaves.{at_in, at_object, at_page}
 use Rattle.mapping.proofs.alpha.AlphaMappingHardware.leaf.Goals as goal

@@ -1,7 +1,7 @@
-use Rattle.std.proofs.Common.{◌≡◌, ℕ, ◌+◌, ◌*◌, ◌/◌, ◌%◌, ◌^◌, ◌<◌, ◌≤◌, List, length, get_or, vec_items, sym, refl, ap, ◌∙◌, subst, arith}
+use Rattle.std.proofs.Common.{◌≡◌, ℕ, ◌+◌, ◌*◌, ◌%◌, ◌^◌, ◌≤◌, List, get_or, vec_items, sym, refl, ap, ◌∙◌, subst, arith}
 use Rattle.mapping.specs.declared.leaf.Leaf.{Leaf}
-use Rattle.mapping.specs.Leaves.{laid, Fit, PutOk, PutRefused}
-use Rattle.mapping.specs.AlphaFormat.{order_in, alpha_sizes, alpha_at, AlphaTable}
+use Rattle.mapping.specs.Leaves.{Fit, PutOk, PutRefused}
+use Rattle.mapping.specs.AlphaFormat.{order_in, alpha_sizes, alpha_at}
 use Rattle.mapping.specs.AlphaTables.{Sound}
 use Rattle.mapping.specs.AlphaLeaves.{alpha_table}
 use Rattle.mapping.proofs.AlphaCalls.{written, put_ok, put_sound, put_reaches}
@@ -24,16 +24,16 @@ returns-then-not-fits c =
       refused = refl;
     }
 
-pub returns-then-order-of-leaf : goal.returns-then-order-of-leaf
-returns-then-order-of-leaf c =
+pub returns-then-order_of-leaf : goal.returns-then-order_of-leaf
+returns-then-order_of-leaf c =
     let xs : List ℕ = vec_items c.args.self.now.table in
     let l : Leaf = c.asked-leaf.result in
     let q = c.asked-leaf.ensures in
     let sound : Sound (λ i. get_or xs i 0) = sound_of c.args.self.now in
     let f : Fit alpha_sizes c.args.object l = c.if-not-fits.ensures.yes refl in
     let even : l.first.0 % 2 ^ l.order ≡ 0 = subst (λ (l : Leaf). l.first.0 % 2 ^ l.order ≡ 0) (sym q) c.args.pages.block.aligned in
-    let o : c.order-of.result ≡ order_in (get_or xs (c.args.object * 1024 + l.first.0) 0) = c.order-of.ensures.0 ∙ ap order_in (c.read.ensures ∙ ap (λ i. get_or xs i 0) c.place-start.ensures) in
-    let r = put_reaches xs c.args.object l sound f even (omega (arith, o, c.if-order-of-leaf.true)) in
+    let o : c.order_of.result ≡ order_in (get_or xs (c.args.object * 1024 + l.first.0) 0) = c.order_of.ensures.0 ∙ ap order_in (c.read.ensures ∙ ap (λ i. get_or xs i 0) c.place-start.ensures) in
+    let r = put_reaches xs c.args.object l sound f even (omega (arith, o, c.if-order_of-leaf.true)) in
     record {
       leaves = (
         subst (λ l. PutRefused alpha_sizes (alpha_at xs) c.args.object l 16) q
@@ -55,13 +55,17 @@ done c =
     let sound : Sound (λ i. get_or xs i 0) = sound_of c.args.self.now in
     let f : Fit alpha_sizes c.args.object l = c.if-not-fits.ensures.yes refl in
     let even : l.first.0 % 2 ^ l.order ≡ 0 = subst (λ (l : Leaf). l.first.0 % 2 ^ l.order ≡ 0) (sym c.asked-leaf.ensures) c.args.pages.block.aligned in
-    let o : c.order-of.result ≡ order_in (get_or xs (c.args.object * 1024 + l.first.0) 0) = c.order-of.ensures.0 ∙ ap order_in (c.read.ensures ∙ ap (λ i. get_or xs i 0) c.place-start.ensures) in
-    let free : order_in (get_or xs (c.args.object * 1024 + l.first.0) 0) ≤ l.order = omega (arith, o, c.if-order-of-leaf.false) in
+    let o : c.order_of.result ≡ order_in (get_or xs (c.args.object * 1024 + l.first.0) 0) = c.order_of.ensures.0 ∙ ap order_in (c.read.ensures ∙ ap (λ i. get_or xs i 0) c.place-start.ensures) in
+    let free : order_in (get_or xs (c.args.object * 1024 + l.first.0) 0) ≤ l.order = omega (arith, o, c.if-order_of-leaf.false) in
     let w = written xs ys _ _ _ _ _ _ _ c.place-start.ensures c.span-count.ensures c.encode.ensures.0 c.write.ensures.inside c.write.ensures.lower c.write.ensures.upper in
     (put_sound xs ys c.args.object l sound f even free w, put_ok xs ys c.args.object l sound f even free w)
 
 pub invariant_of-self : goal.invariant_of-self
-invariant_of-self c = let s = (done c).0 in (c.write.ensures.length ∙ c.args.self.now.long, (s.small, (s.same, tt)))
+invariant_of-self c = let s = (done c).0 in record {
+  long = c.write.ensures.length ∙ c.args.self.now.long;
+  small = s.small;
+  same = s.same;
+}
 
 pub returns : goal.returns
 returns c =

@@ -12,7 +12,14 @@ zero c =
 pub invariant_of-result : goal.invariant_of-result
 invariant_of-result c =
     let s = blank_sound (vec_items c.write.new.table) (zero c) in
-    (c.write.ensures.length ∙ c.args.accepted.long, (refl, (s.small, (s.low, (s.top, (λ n h. get_or-replicate {A = ℕ} 8 n 0 0 h ∙ sym (empty_count_lem (vec_items c.write.new.table) n (λ d l. zero c (8 + n * 512 + d))), tt))))))
+    record {
+      long = c.write.ensures.length ∙ c.args.accepted.long;
+      eight = refl;
+      small = s.small;
+      low = s.low;
+      top = s.top;
+      counted = λ n h. get_or-replicate {A = ℕ} 8 n 0 0 h ∙ sym (empty_count_lem (vec_items c.write.new.table) n (λ d l. zero c (8 + n * 512 + d)));
+    }
 
 pub returns : goal.returns
 returns c =

@@ -6,7 +6,7 @@ use Rattle.mapping.proofs.Sv39Exact.{sv39_table}
 use Rattle.mapping.proofs.Sv39Calls.{Done, clear9_done, clear0_done}
 use Rattle.mapping.proofs.Sv39State.{sound_of, counts_of, table_of}
 use Rattle.mapping.proofs.sv39.Sv39MappingHardware.clear.Goals as goal
-use Rattle.mapping.proofs.sv39.Sv39MappingHardware.clear.Goals.{After-set, After-set-lower}
+use Rattle.mapping.proofs.sv39.Sv39MappingHardware.clear.Goals.{After-set, After-set_lower}
 
 pub returns-then-object-gt3 : goal.returns-then-object-gt3
 returns-then-object-gt3 c =
@@ -41,7 +41,14 @@ pub invariant_of-self : goal.invariant_of-self
 invariant_of-self c =
     let d = big c in
     let s = d.sound in
-    (c.set.ensures.length ∙ c.args.self.now.long, (c.args.self.now.eight, (s.small, (s.low, (s.top, (d.counts.each, tt))))))
+    record {
+      long = c.set.ensures.length ∙ c.args.self.now.long;
+      eight = c.args.self.now.eight;
+      small = s.small;
+      low = s.low;
+      top = s.top;
+      counted = d.counts.each;
+    }
 
 pub returns-then-top-eq-LEAF : goal.returns-then-top-eq-LEAF
 returns-then-top-eq-LEAF c =
@@ -53,26 +60,33 @@ returns-then-top-eq-LEAF c =
     }
 
 -- the leaf of order 0 is gone
-small : (c : After-set-lower)
-    → Done (vec_items c.set-lower.new.table) c.set-lower.new.counts
-    (Cleared (sv39_at (vec_items c.args.self.now.table)) (sv39_at (vec_items c.set-lower.new.table)) c.args.object c.args.page.0 0)
+small : (c : After-set_lower)
+    → Done (vec_items c.set_lower.new.table) c.set_lower.new.counts
+    (Cleared (sv39_at (vec_items c.args.self.now.table)) (sv39_at (vec_items c.set_lower.new.table)) c.args.object c.args.page.0 0)
 small c =
-    clear0_done (vec_items c.args.self.now.table) (vec_items c.set-lower.new.table) c.args.self.now.counts c.set-lower.new.counts c.args.object c.args.page.0 _ _
+    clear0_done (vec_items c.args.self.now.table) (vec_items c.set_lower.new.table) c.args.self.now.counts c.set_lower.new.counts c.args.object c.args.page.0 _ _
     c.upper-n.ensures c.lower-place.ensures (omega arith) (omega arith) (sound_of c.args.self.now) (counts_of c.args.self.now)
     (λ h. c.if-top-eq-LEAF.false (ap (λ x. x % 4) c.read-top.ensures ∙ h)) (λ z. c.if-read-eq0.false (c.read.ensures ∙ z))
-    (record { here = c.set-lower.ensures.here; top = c.set-lower.ensures.top; others = c.set-lower.ensures.others; counted = c.set-lower.ensures.counted; kept = c.set-lower.ensures.kept })
+    (record { here = c.set_lower.ensures.here; top = c.set_lower.ensures.top; others = c.set_lower.ensures.others; counted = c.set_lower.ensures.counted; kept = c.set_lower.ensures.kept })
 
 pub invariant_of-self-2 : goal.invariant_of-self-2
 invariant_of-self-2 c =
     let d = small c in
     let s = d.sound in
-    (c.set-lower.ensures.long ∙ c.args.self.now.long, (c.set-lower.ensures.eight, (s.small, (s.low, (s.top, (d.counts.each, tt))))))
+    record {
+      long = c.set_lower.ensures.long ∙ c.args.self.now.long;
+      eight = c.set_lower.ensures.eight;
+      small = s.small;
+      low = s.low;
+      top = s.top;
+      counted = d.counts.each;
+    }
 
 pub returns : goal.returns
 returns c =
-    let d = small (goal.at.returns c).After-set-lower in
+    let d = small (goal.at.returns c).After-set_lower in
     record {
       leaves = d.told;
-      entries = sv39_table (vec_items c.set-lower.new.table) d.sound (sym c.set-lower.new.table.ok.0 ∙ c.set-lower.ensures.long ∙ c.args.self.now.long);
+      entries = sv39_table (vec_items c.set_lower.new.table) d.sound (sym c.set_lower.new.table.ok.0 ∙ c.set_lower.ensures.long ∙ c.args.self.now.long);
       refused = tt;
     }

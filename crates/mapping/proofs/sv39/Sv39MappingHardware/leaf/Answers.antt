@@ -1,4 +1,4 @@
-use Rattle.std.proofs.Common.{◌≡◌, ◌+◌, ◌*◌, ◌/◌, ◌%◌, get_or, vec_items, sym, ap, ◌∙◌, inl, inr, arith}
+use Rattle.std.proofs.Common.{◌*◌, ◌/◌, ◌%◌, get_or, vec_items, sym, ap, ◌∙◌, inl, inr, arith}
 use Rattle.mapping.specs.Sv39Format.{sv39_leaf}
 use Rattle.mapping.specs.Sv39Words.{at_in, at_object, at_page, walk_small, walk_big}
 use Rattle.mapping.proofs.sv39.Sv39MappingHardware.leaf.Goals as goal

@@ -1,5 +1,5 @@
 -- What a run leaves in the pages, told from its accepted calls.
-use Rattle.std.proofs.Common.{◌≡◌, ℕ, zero, suc, ◌<◌, Bool, true, false, cond, ◌&&◌, eqb, ◌≢◌, List, [], ◌∷◌, length, get_or, set, replicate, Some, None, Option, sym, refl, ap, ◌∙◌, ap₂, arith, length-set, get_or-set_other, get_or-set_same}
+use Rattle.std.proofs.Common.{◌≡◌, ℕ, zero, suc, ◌<◌, Bool, true, false, cond, ◌&&◌, eqb, List, [], ◌∷◌, length, get_or, set, replicate, Some, None, Option, sym, refl, ap, ◌∙◌, ap₂, arith, length-set, get_or-set_other, get_or-set_same}
 use Rattle.std.proofs.lemmas.Bool.{not_from_true, not_from_false, eq-eqb, ne_eqb, cond-true, cond-false, and_parts, eqb-true, eqb-false, false≢true}
 use Rattle.page_machine.specs.Machine.{Page, absent, present, Machine, started, is_present, is_stored, zeros, with_page, with_pages, with_object}
 use Rattle.page_machine.specs.Calls.{Call, Open, Load, Store, Release, Flush, Close, word, refused, no_frame}

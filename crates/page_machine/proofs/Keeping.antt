@@ -5,7 +5,7 @@ use Rattle.frames.specs.Source.{Source}
 use Rattle.page_machine.specs.Leaves.{Home, home, Homes}
 use Rattle.page_machine.specs.Counting.{sum, page_count, bit}
 use Rattle.page_machine.specs.Reservations.{Reservation, Table, covers, matching, reserved_frame, population, is_empty, empty_count}
-use Rattle.page_machine.specs.Claims.{Places, places, claim_of, claim, claims, Separate, Apart, rehome}
+use Rattle.page_machine.specs.Claims.{Places, places, claim_of, claim, Separate, Apart, rehome}
 use Rattle.page_machine.specs.ClaimLaws.{Keeps, Marking, Unmarking, Aging, Adding, FillingUp, GivingBack, TakingOne, GivingOne}
 use Rattle.page_machine.proofs.Sums.{sum_same, sum_ones, sum_has, sum_both, pages_block}
 use Rattle.page_machine.proofs.Claiming.{some_nat, Grabbed, grabbed, New, grow_one, grow_taken, grow_low, shrink_one, shrink_taken, shrink_low, shrink_free, count_grow, held, holding, push_no, push_yes, middle_no, middle_yes, middle_inside, middle_less, middle_table, push_table}

@@ -6,8 +6,7 @@ use Rattle.page_machine.specs.Machine.{Page, absent, present, Machine, is_presen
 use Rattle.page_machine.specs.Steps.{unstored}
 use Rattle.page_machine.specs.Leaves.{Home, home, Homes, mark, unmark}
 use Rattle.page_machine.specs.Reservations.{reserved_frame}
-use Rattle.page_machine.specs.Claims as claims
-use Rattle.page_machine.specs.Claims.{Places, claim_of, claim, limit}
+use Rattle.page_machine.specs.Claims.{Places, claim_of, claim}
 use Rattle.page_machine.specs.Placement.{in_frame, nowhere, stored}
 use Rattle.page_machine.specs.Invariant.{Sound}
 use Rattle.page_machine.specs.PlacementLaws.{resize}

@@ -1,3 +1,5 @@
+#![tactic(auto)]
+
 pub mod change_laws;
 pub mod claim_laws;
 pub mod leaf_laws;

@@ -4,4 +4,4 @@ use Rattle.manager.proofs.words.read.Goals as goal
 
 pub returns-else-place-memory : goal.returns-else-place-memory
 returns-else-place-memory c =
-    sym (get_or_past c.args.memory.now (c.args.frame.0 * c.args.words-a-page + c.args.word) 0 (omega arith))
+    sym (get_or_past c.args.memory.now (c.args.frame.0 * c.args.words_a_page + c.args.word) 0 (omega arith))

@@ -1,4 +1,6 @@
 // Prints the listing of every trace in the current folder, by name.
+#![tactic(auto)]
+
 use replay::listing::write_listing;
 use std::fs;
 use std::io::{BufWriter, Write};
@@ -10,7 +12,7 @@ fn names(rt: &HostRuntime) -> anyhow::Result<Vec<String>> {
         let entry = entry?;
         names.push(String::from_str(rt.alloc(), entry.file_name())?)?;
     }
-    names.sort();
+    names.sort()?;
     Ok(names)
 }
 

@@ -1,4 +1,4 @@
-use Rattle.std.specs.Prelude.{◌≡◌, ℕ, ◌+◌}
+use Rattle.std.specs.Prelude.{ℕ}
 use Rattle.replay.specs.declared.record.CallRecord.{CallRecord}
 use Rattle.replay.specs.declared.record.CallRecord.TheVariants.{Open, Load, Store, Release, Flush}
 use Rattle.replay.specs.declared.record.Record.{Record}

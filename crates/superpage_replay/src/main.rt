@@ -1,4 +1,6 @@
 // Replays the trace on standard input and prints its listing.
+#![tactic(auto)]
+
 use replay::lines::Lines;
 use replay::listing::write_listing;
 use std::io::{BufWriter, Read, Write};

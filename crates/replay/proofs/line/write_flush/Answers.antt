@@ -1,5 +1,5 @@
-use Rattle.std.proofs.Common.{◌∷◌, ap, arith, length-append}
-use Rattle.replay.specs.Lines.{line, fields, field}
+use Rattle.std.proofs.Common.{◌∷◌, arith, length-append}
+use Rattle.replay.specs.Lines.{fields, field}
 use Rattle.replay.proofs.Adding.{adds_then, adds_as}
 use Rattle.replay.proofs.Fitting.{length_line, flush_is}
 use Rattle.replay.proofs.line.write_flush.Goals as goal

@@ -14,7 +14,7 @@ returns c =
           let z = c.push_byte.ensures.within (omega arith) in
           omega arith;
       adds = λ h.
-          let room = few_fit c.args.numbers.now (λ i. omega (arith, c.type-inv.numbers i)) in
+          let room = few_fit c.args.numbers.now (λ i. omega (arith, c.type_inv.numbers i)) in
           let a = c.push_byte-start.ensures.adds (omega arith) in
           let b = c.push_fields-end.ensures.adds (omega (arith, a.stops, room)) in
           adds_then (adds_then a b) (c.push_byte.ensures.adds (omega (arith, a.stops, b.stops, room)));

@@ -1,6 +1,6 @@
-use Rattle.std.proofs.Common.{◌≡◌, ◌≤◌, false, ltb, length, get_or, arith}
+use Rattle.std.proofs.Common.{◌≡◌, false, ltb, length, get_or, arith}
 use Rattle.std.proofs.lemmas.Bool.{le-ltb}
-use Rattle.manager.specs.Arguments.{stored_below, wrong_flush}
+use Rattle.manager.specs.Arguments.{stored_below}
 use Rattle.manager.proofs.Stored.{stored_few}
 use Rattle.manager.proofs.state.Manager.check_flush.Goals as goal
 

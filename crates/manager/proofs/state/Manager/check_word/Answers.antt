@@ -1,5 +1,3 @@
-use Rattle.std.proofs.Common.{◌≡◌, None, sym, ap, subst}
-use Rattle.manager.specs.Arguments.{Decides, or_else}
 use Rattle.manager.proofs.state.Manager.check_word.Goals as goal
 
 pub returns : goal.returns

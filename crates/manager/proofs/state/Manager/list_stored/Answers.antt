@@ -1,6 +1,5 @@
-use Rattle.std.proofs.Common.{◌≡◌, ℕ, ◌+◌, ◌≤◌, sym, ap, ◌∙◌, arith, length-set}
-use Rattle.manager.specs.Arguments.{stored_below}
-use Rattle.manager.proofs.Stored.{stored_few, stored_none, stored_more, stored_same, stored_rises}
+use Rattle.std.proofs.Common.{sym, ◌∙◌, arith}
+use Rattle.manager.proofs.Stored.{stored_few, stored_none, stored_more, stored_same}
 use Rattle.manager.proofs.state.Manager.list_stored.Goals as goal
 use Rattle.manager.proofs.state.Manager.list_stored.Goals.{then-is_stored+then-count-list, else-is_stored, else-is_stored-via-then-is_stored+else-count-list, else-is_stored-via-else-is_stored}
 

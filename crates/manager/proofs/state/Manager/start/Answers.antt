@@ -1,4 +1,4 @@
-use Rattle.std.proofs.Common.{◌≡◌, ℕ, ◌<◌, ◌≤◌, List, refl, ◌∙◌, inl, inr, arith, rules, below_more}
+use Rattle.std.proofs.Common.{refl, ◌∙◌, inl, inr, arith, rules, below_more}
 use Rattle.std.proofs.lemmas.Bool.{cases_lt}
 use Rattle.manager.proofs.Stored.{no_object}
 use Rattle.manager.proofs.state.Manager.start.Goals as goal

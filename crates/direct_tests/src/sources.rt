@@ -147,7 +147,7 @@ fn boot_lists(rt: HostRuntime) -> Result<(), Fail> {
     run(&rt, &mut list, &steps)?;
     let (places, filled) = list.into_parts();
     // What was counted came back in rising order; place 3 was never written.
-    assert_eq!(rt; places.as_slice(), &[0, 1, 2, 1]);
+    assert_eq!(rt; places.as_slice(), [0, 1, 2, 1].as_slice());
     assert_eq!(rt; filled, 3);
     Ok(())
 }

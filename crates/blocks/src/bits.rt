@@ -135,7 +135,8 @@ pub fn wipe(words: &mut [u64], block: AlignedBlock)
 
 // How many places are set.
 pub fn count(words: &[u64]) -> usize
-    ensures { bits_set words.now < 2 ^ 64 → result ≡ bits_set words.now }
+    ensures set { bits_set words.now < 2 ^ 64 → result ≡ bits_set words.now }
+    ensures few { bits_set words.now ≤ 64 * length words.now }
 {
     let mut n: usize = 0;
     for word in words {

@@ -1,6 +1,8 @@
 ghost use Rattle.blocks.specs.Bit.{bit};
-ghost use Rattle.std.specs.Prelude.{◌≡◌, ℕ, ◌+◌, ◌-◌, ◌*◌, ◌/◌, ◌%◌, ◌^◌, ◌<◌, ◌≤◌, false, ◌&&◌, replicate, MatchResult, ◌==◌, ◌≢◌, nat_le, nat_lt};
+ghost use Rattle.std.specs.Prelude.{◌≡◌, ℕ, ◌+◌, ◌-◌, ◌*◌, ◌/◌, ◌%◌, ◌^◌, ◌<◌, ◌≤◌, true, false, ◌&&◌, replicate, MatchResult, ◌==◌, ◌≢◌, nat_le, nat_lt};
 ghost use Rattle.blocks.specs.Blocks.{IsBlock};
+ghost use Rattle.blocks.specs.Bit.{bits_set};
+ghost use Rattle.reservations.specs.Reserved.{block_size, covers, meets, empty_frames};
 
 use blocks::aligned::BadBlock;
 use blocks::bits;
@@ -63,13 +65,16 @@ impl Reservation {
     }
 
     pub fn covers(&self, object: u8, page: PageNumber) -> bool
-        ensures { self.now.order ≤ 9 → result ≡ (self.now.object == object && (nat_le self.now.first.0 page.0 && nat_lt (page.0 - self.now.first.0) (2 ^ self.now.order))) }
+        ensures covers { result ≡ covers self.now object page.0 }
+        ensures block { self.now.order ≤ 9 → result ≡ (self.now.object == object && (nat_le self.now.first.0 page.0 && nat_lt (page.0 - self.now.first.0) (2 ^ self.now.order))) }
     {
         self.object == object && self.first <= page && self.distance(page) < self.count()
     }
 
     // Whether it covers a page of the block.
-    pub fn meets(&self, object: u8, pages: PageBlock) -> bool {
+    pub fn meets(&self, object: u8, pages: PageBlock) -> bool
+        ensures { result ≡ meets self.now object pages.block.first pages.block.order }
+    {
         self.object == object
             && self.first < pages.end()
             && (pages.first() < self.first || self.distance(pages.first()) < self.count())
@@ -93,6 +98,7 @@ impl Reservation {
     pub fn with(&self, page: PageNumber) -> Reservation
         ensures kept { (result.object ≡ self.now.object) × (result.first ≡ self.now.first) × (result.order ≡ self.now.order) × (result.frame ≡ self.now.frame) }
         ensures others { (j : ℕ) → (j ≢ page.0 - self.now.first.0) → bit result.population j ≡ bit self.now.population j }
+        ensures here { page.0 - self.now.first.0 < 512 → bit result.population (page.0 - self.now.first.0) ≡ true }
     {
         let mut population = self.population;
         bits::set(&mut population, self.distance(page) as usize);
@@ -125,18 +131,24 @@ impl Reservation {
 
     // How many of its pages are present.
     pub fn present(&self) -> u16
-        ensures { result ≤ 512 }
+        ensures within { result ≤ 512 }
+        ensures marks { result ≡ bits_set self.now.population }
     {
         bits::count(&self.population).min(512) as u16
     }
 
     // How many of its frames no page is present in.
-    pub fn empty(&self) -> u16 {
+    pub fn empty(&self) -> u16
+        ensures { result ≡ empty_frames self.now }
+    {
         self.count().saturating_sub(self.present())
     }
 
     // Whether no page is present in some of its frames.
-    pub fn is_unused(&self, frames: FrameBlock) -> bool {
+    pub fn is_unused(&self, frames: FrameBlock) -> bool
+        ensures yes { result ≡ true → (j : ℕ) → frames.block.first - self.now.frame.0 ≤ j → j < frames.block.first - self.now.frame.0 + 2 ^ frames.block.order → bit self.now.population j ≡ false }
+        ensures no { result ≡ false → ((j : ℕ) → frames.block.first - self.now.frame.0 ≤ j → j < frames.block.first - self.now.frame.0 + 2 ^ frames.block.order → bit self.now.population j ≡ false) → ⊥ }
+    {
         let from = frames.first().0.saturating_sub(self.frame.0) as usize;
         bits::first_in(&self.population, from, from + frames.count() as usize).is_none()
     }

@@ -1,4 +1,8 @@
 ghost use Rattle.std.specs.Prelude.{◌≡◌, ℕ, ◌+◌, ◌-◌, ◌*◌, ◌^◌, ◌<◌, ◌≤◌, length, if◌then◌else◌, Some, None, ◌==◌, nat_le, nat_lt, slice_set};
+ghost use Rattle.std.specs.Prelude.{take, true, false, slice_index_or};
+ghost use Rattle.std.specs.List.{list_any, sum_by, HoldsAt, SameBelow};
+ghost use Rattle.reservations.specs.declared.reservation.Reservation.{Reservation};
+ghost use Rattle.reservations.specs.Reserved.{covers, meets, empty_frames};
 
 use crate::reservation::Reservation;
 use blocks::block::PageBlock;
@@ -45,13 +49,13 @@ impl Table {
 
     // The oldest reservation.
     pub fn oldest(&self) -> Option<Reservation>
-        ensures { elim result [ Some row ↦ (0 < self.now.count) | None ↦ (self.now.count ≡ 0) ] }
+        ensures { elim result [ Some row ↦ (0 < self.now.count) × HoldsAt (λ r. r ≡ row) self.now.rows 0 | None ↦ (self.now.count ≡ 0) ] }
     {
         self.get(0)
     }
 
     pub fn get(&self, place: usize) -> Option<Reservation>
-        ensures { elim result [ Some row ↦ (place < self.now.count) | None ↦ (self.now.count ≤ place) ] }
+        ensures { elim result [ Some row ↦ (place < self.now.count) × HoldsAt (λ r. r ≡ row) self.now.rows place | None ↦ (self.now.count ≤ place) ] }
     {
         if place < self.count {
             Some(self.rows[place])
@@ -62,7 +66,7 @@ impl Table {
 
     // The place of the reservation that covers a page.
     pub fn find(&self, object: u8, page: PageNumber) -> Option<usize>
-        ensures { elim result [ Some place ↦ (place < self.now.count) | None ↦ Unit {0} ] }
+        ensures { elim result [ Some place ↦ (place < self.now.count) × HoldsAt (λ r. covers r object page.0 ≡ true) self.now.rows place × (list_any (λ r. covers r object page.0) (take place self.now.rows) ≡ false) | None ↦ list_any (λ r. covers r object page.0) (take self.now.count self.now.rows) ≡ false ] }
     {
         for place in 0..self.count {
             if self.rows[place].covers(object, page) {
@@ -73,7 +77,9 @@ impl Table {
     }
 
     // Whether a page of the block is reserved.
-    pub fn meets(&self, object: u8, pages: PageBlock) -> bool {
+    pub fn meets(&self, object: u8, pages: PageBlock) -> bool
+        ensures { result ≡ list_any (λ r. meets r object pages.block.first pages.block.order) (take self.now.count self.now.rows) }
+    {
         for place in 0..self.count {
             if self.rows[place].meets(object, pages) {
                 return true;
@@ -109,7 +115,10 @@ impl Table {
 
     // Takes a reservation out; those younger move up.
     pub fn remove(&mut self, place: usize)
-        ensures { place < self.old.count → self.new.count + 1 ≡ self.old.count }
+        ensures count { place < self.old.count → self.new.count + 1 ≡ self.old.count }
+        ensures older { SameBelow self.old.rows self.new.rows place }
+        ensures younger { (k : ℕ) (d : Reservation) → place ≤ k → k + 1 < self.old.count → slice_index_or self.new.rows k d ≡ slice_index_or self.old.rows (k + 1) d }
+        ensures past { self.old.count ≤ place → self.new ≡ self.old }
     {
         if place >= self.count {
             return;
@@ -122,7 +131,9 @@ impl Table {
     }
 
     // How many frames are held for pages that are absent.
-    pub fn empty(&self) -> u16 {
+    pub fn empty(&self) -> u16
+        ensures { result ≡ sum_by empty_frames (take self.now.count self.now.rows) }
+    {
         let mut total: u16 = 0;
         for place in 0..self.count {
             total = total.saturating_add(self.rows[place].empty());

@@ -1,7 +1,7 @@
 use Rattle.std.proofs.Common.{◌+◌, sym, ap, ◌∙◌, arith}
 use Rattle.std.proofs.lemmas.List.{take_all}
 use Rattle.blocks.specs.Bit.{bits_set}
-use Rattle.blocks.proofs.Counts.{set_none, set_more, set_part}
+use Rattle.blocks.proofs.Counts.{set_none, set_more, set_part, bits_set_le}
 use Rattle.blocks.proofs.bits.count.Goals as goal
 
 pub loop-word-init : goal.loop-word-init
@@ -16,5 +16,8 @@ loop-word-preserved c =
     let s = c.saturating_add-n.ensures in
     omega (arith, i, m, p, s)
 
-pub returns : goal.returns
-returns c = λ h. c.loop-word.invariant h ∙ ap bits_set (take_all c.loop-word.word-index c.args.words.now c.loop-word-test.false)
+pub returns-clause-few : goal.returns-clause-few
+returns-clause-few c = bits_set_le c.args.words.now (λ k. omega (arith, c.type_inv.words k))
+
+pub returns-clause-set : goal.returns-clause-set
+returns-clause-set c = λ h. c.loop-word.invariant h ∙ ap bits_set (take_all c.loop-word.word-index c.args.words.now c.loop-word-test.false)

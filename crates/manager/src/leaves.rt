@@ -20,7 +20,9 @@ pub fn frame_under(leaf: Leaf, page: PageNumber) -> FrameNumber
 }
 
 // The page after a leaf's last.
-pub fn end_of(leaf: Leaf) -> u16 {
+pub fn end_of(leaf: Leaf) -> u16
+    ensures { leaf.order ≤ 9 → leaf.first.0 + 2 ^ leaf.order < 2 ^ 16 → result ≡ leaf.first.0 + 2 ^ leaf.order }
+{
     leaf.first.0.saturating_add(1 << leaf.order.min(9))
 }
 

@@ -1,5 +1,5 @@
-ghost use Rattle.std.specs.Prelude.{◌≡◌, ℕ, ◌+◌, ◌*◌, ◌^◌, ◌<◌, ◌≤◌, true, false, length, ◌≢◌};
-ghost use Rattle.blocks.specs.Bit.{bit};
+ghost use Rattle.std.specs.Prelude.{◌≡◌, ℕ, ◌+◌, ◌*◌, ◌%◌, ◌^◌, ◌<◌, ◌≤◌, true, false, length, ◌≢◌};
+ghost use Rattle.blocks.specs.Bit.{bit, bits_set};
 
 use blocks::bits;
 use blocks::block::PageBlock;
@@ -43,7 +43,8 @@ impl Presence {
 
     // Whether a page of the block is present.
     pub fn any(&self, object: u8, pages: PageBlock) -> bool
-        ensures { result ≡ false → (j : ℕ) → object * 1024 + pages.block.first ≤ j → j < object * 1024 + pages.block.first + 2 ^ pages.block.order → bit self.now.words j ≡ false }
+        ensures no { result ≡ false → (j : ℕ) → object * 1024 + pages.block.first ≤ j → j < object * 1024 + pages.block.first + 2 ^ pages.block.order → bit self.now.words j ≡ false }
+        ensures yes { result ≡ true → ((j : ℕ) → object * 1024 + pages.block.first ≤ j → j < object * 1024 + pages.block.first + 2 ^ pages.block.order → bit self.now.words j ≡ false) → ⊥ }
     {
         let from = place_of(object, pages.first());
         match bits::first_in(&self.words, from, from + pages.count() as usize) {
@@ -53,7 +54,10 @@ impl Presence {
     }
 
     // Whether all pages of the block are present.
-    pub fn all(&self, object: u8, pages: PageBlock) -> bool {
+    pub fn all(&self, object: u8, pages: PageBlock) -> bool
+        ensures yes { result ≡ true → (j : ℕ) → object * 1024 + pages.block.first ≤ j → j < object * 1024 + pages.block.first + 2 ^ pages.block.order → bit self.now.words j ≡ true }
+        ensures no { result ≡ false → ((j : ℕ) → object * 1024 + pages.block.first ≤ j → j < object * 1024 + pages.block.first + 2 ^ pages.block.order → bit self.now.words j ≡ true) → ⊥ }
+    {
         let from = place_of(object, pages.first());
         for at in (from..from + pages.count() as usize).step_by(64) {
             let wanted = pages.count().min(64);
@@ -65,13 +69,19 @@ impl Presence {
     }
 
     // How many pages are present.
-    pub fn count(&self) -> u16 {
+    pub fn count(&self) -> u16
+        ensures { result ≡ bits_set self.now.words }
+    {
         bits::count(&self.words).min(4096) as u16
     }
 }
 
 // Whether `count` places from `from` on, which lie in one word, are set.
-fn all_in_word(words: &[u64], from: usize, count: u16) -> bool {
+fn all_in_word(words: &[u64], from: usize, count: u16) -> bool
+    requires { (1 ≤ count) × (from % 64 + count ≤ 64) }
+    ensures yes { result ≡ true → (k : ℕ) → k < count → bit words.now (from + k) ≡ true }
+    ensures no { result ≡ false → ((k : ℕ) → k < count → bit words.now (from + k) ≡ true) → ⊥ }
+{
     let w = from / 64;
     if w >= words.len() || count == 0 || count > 64 {
         return false;

@@ -1,4 +1,7 @@
-ghost use Rattle.std.specs.Prelude.{◌≡◌};
+ghost use Rattle.std.specs.Prelude.{◌≡◌, take};
+ghost use Rattle.std.specs.List.{sum_by};
+ghost use Rattle.blocks.specs.Bit.{bits_set};
+ghost use Rattle.reservations.specs.Reserved.{empty_frames};
 ghost use Rattle.manager.specs.Arguments.{Decides, TurnsDown, wrong_page};
 
 use crate::refusal::Refusal;
@@ -55,7 +58,9 @@ impl<S: FrameSource + Drop, H: MappingHardware + Drop> Manager<S, H> {
     }
 
     pub fn counts(&self) -> Counts
-        ensures { result.available ≡ (S.FrameSource.means self.now.source).avail }
+        ensures present { result.present ≡ bits_set self.now.present.words }
+        ensures empty { result.empty_reserved ≡ sum_by empty_frames (take self.now.reserved.count self.now.reserved.rows) }
+        ensures available { result.available ≡ (S.FrameSource.means self.now.source).avail }
     {
         Counts {
             present: self.present.count(),

@@ -1,4 +1,4 @@
-ghost use Rattle.std.specs.Prelude.{◌≡◌, ℕ, ◌+◌, ◌*◌, ◌^◌, ◌<◌, ◌≤◌, length, slice_index};
+ghost use Rattle.std.specs.Prelude.{◌≡◌, ℕ, ◌+◌, ◌*◌, ◌^◌, ◌<◌, ◌≤◌, length, slice_index, slice_set};
 
 use blocks::number::FrameNumber;
 
@@ -21,7 +21,9 @@ pub fn read(memory: &[u32], frame: FrameNumber, words_a_page: u16, word: u16) ->
     }
 }
 
-pub fn write(memory: &mut [u32], frame: FrameNumber, words_a_page: u16, word: u16, value: u32) {
+pub fn write(memory: &mut [u32], frame: FrameNumber, words_a_page: u16, word: u16, value: u32)
+    ensures { memory.new ≡ slice_set memory.old (frame.0 * words_a_page + word) value }
+{
     let place = place_of(frame, words_a_page, word);
     if place < memory.len() {
         memory[place] = value;
@@ -29,7 +31,11 @@ pub fn write(memory: &mut [u32], frame: FrameNumber, words_a_page: u16, word: u1
 }
 
 // Zeroes the words of a frame.
-pub fn zero_page(memory: &mut [u32], frame: FrameNumber, words_a_page: u16) {
+pub fn zero_page(memory: &mut [u32], frame: FrameNumber, words_a_page: u16)
+    ensures here { (i : ℕ) → frame.0 * words_a_page ≤ i → i < frame.0 * words_a_page + words_a_page → slice_index memory.new i ≡ 0 }
+    ensures below { (i : ℕ) → i < frame.0 * words_a_page → slice_index memory.new i ≡ slice_index memory.old i }
+    ensures above { (i : ℕ) → frame.0 * words_a_page + words_a_page ≤ i → slice_index memory.new i ≡ slice_index memory.old i }
+{
     for word in 0..words_a_page {
         write(memory, frame, words_a_page, word, 0);
     }

@@ -1,4 +1,4 @@
-ghost use Rattle.std.specs.Prelude.{◌≡◌};
+ghost use Rattle.std.specs.Prelude.{◌≡◌, Ok, Err};
 
 use frames::refusal::BadSource;
 use manager::refusal::Refusal;
@@ -49,7 +49,9 @@ pub struct Placed<E> {
 }
 
 // The same result, its error placed in the trace.
-pub fn placed_in_trace<T, E: Drop>(res: Result<T, E>, place: usize) -> Result<T, Placed<E>> {
+pub fn placed_in_trace<T, E: Drop>(res: Result<T, E>, place: usize) -> Result<T, Placed<E>>
+    ensures { elim res [ Ok value ↦ result ≡ Ok value | Err cause ↦ result ≡ Err (record { place = place; cause = cause }) ] }
+{
     match res {
         Ok(value) => Ok(value),
         Err(cause) => Err(Placed { place, cause }),

@@ -57,7 +57,9 @@ impl<'a, S: FrameSource + Drop, H: MappingHardware + Drop> MachineReplay<'a, S, 
         manager: Manager<S, H>,
         memory: Vec<u32>,
         flushed: Vec<u16>,
-    ) -> MachineReplay<'a, S, H> {
+    ) -> MachineReplay<'a, S, H>
+        ensures { (result.trace ≡ trace.entry) × (result.stage ≡ Stage.Title) × (result.second ≡ second) × (result.manager ≡ manager) × (result.memory ≡ memory) × (result.flushed ≡ flushed) }
+    {
         MachineReplay {
             trace,
             stage: Stage::Title,

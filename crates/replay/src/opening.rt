@@ -1,4 +1,4 @@
-ghost use Rattle.std.specs.Prelude.{ℕ, ◌+◌, ◌<◌, ◌≤◌, length, Some, None};
+ghost use Rattle.std.specs.Prelude.{◌≡◌, ℕ, ◌+◌, ◌<◌, ◌≤◌, length, Some, None};
 
 use crate::fault::{BadTrace, ShortBuffer};
 use crate::line::{check_buffer, write_line, write_title};
@@ -41,7 +41,9 @@ pub struct Machineless {
 }
 
 impl Machineless {
-    pub fn new(cause: Cause) -> Machineless {
+    pub fn new(cause: Cause) -> Machineless
+        ensures { (result.stage ≡ Stage.Title) × (result.cause ≡ cause) }
+    {
         Machineless {
             stage: Stage::Title,
             cause,

@@ -1,5 +1,6 @@
 -- The numbers by which the arguments of a call are refused. Where several apply, the first counts.
-use Rattle.std.specs.Prelude.{◌≡◌, ℕ, zero, suc, ◌+◌, ◌*◌, Bool, false, cond, not, List, Some, None, Ok, Err, Option, Result, ◌==◌, nat_le, nat_lt, slice_index}
+use Rattle.std.specs.Prelude.{◌≡◌, ℕ, zero, suc, ◌+◌, ◌*◌, Bool, false, cond, not, ◌&&◌, List, [], ◌∷◌, ◌++◌, Some, None, Ok, Err, Option, Result, ◌==◌, nat_le, nat_lt, slice_index}
+use Rattle.std.specs.Int.{is_power_of_two}
 use Rattle.mapping.specs.declared.leaf.Leaf.{Leaf}
 use Rattle.manager.specs.declared.refusal.Refusal.{Refusal}
 use Rattle.manager.specs.Refusals.{number_of}
@@ -13,9 +14,17 @@ or_else None later = later
 abbrev pub refused_if : Bool → ℕ → Option ℕ
 refused_if b k = cond b (Some k) None
 
+-- 1: the words a page are none of 1, 2, 4 .. 2,048
+abbrev pub wrong_words : ℕ → Option ℕ
+wrong_words words = refused_if (not (is_power_of_two words && nat_le words 2048)) 1
+
 -- 2: the frame memory has not W words for each of N frames
 abbrev pub wrong_memory : (words frames long : ℕ) → Option ℕ
 wrong_memory words frames long = refused_if (not (long == frames * words)) 2
+
+-- 1, then 2
+abbrev pub wrong_start : (words frames long : ℕ) → Option ℕ
+wrong_start words frames long = or_else (wrong_words words) (wrong_memory words frames long)
 
 -- 3: no such object
 abbrev pub wrong_number : ℕ → Option ℕ
@@ -48,6 +57,11 @@ is_stored (Some l) = l.writable
 unfoldable pub stored_below : (ℕ → Option Leaf) → ℕ → ℕ
 stored_below at zero = 0
 stored_below at (suc n) = cond (is_stored (at n)) 1 0 + stored_below at n
+
+-- the stored ones of an object's first pages, rising
+unfoldable pub stored_pages : (ℕ → Option Leaf) → ℕ → List ℕ
+stored_pages at zero = []
+stored_pages at (suc n) = stored_pages at n ++ cond (is_stored (at n)) (n ∷ []) []
 
 -- 3, 6, then 10: the list is shorter than the stored pages are many
 abbrev pub wrong_flush : List ℕ → (ℕ → ℕ → Option Leaf) → ℕ → ℕ → Option ℕ

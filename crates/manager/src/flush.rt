@@ -1,5 +1,6 @@
-ghost use Rattle.std.specs.Prelude.{◌≡◌, ℕ, ◌+◌, ◌*◌, ◌^◌, ◌<◌, ◌≤◌, length, IfOk, slice_index};
-ghost use Rattle.manager.specs.Arguments.{Decides, TurnsDown, wrong_flush, is_stored, stored_below};
+ghost use Rattle.std.specs.Prelude.{◌≡◌, ℕ, ◌+◌, ◌*◌, ◌^◌, ◌<◌, ◌≤◌, length, IfOk, slice_index, take};
+ghost use Rattle.std.specs.List.{SameFrom};
+ghost use Rattle.manager.specs.Arguments.{Decides, TurnsDown, wrong_flush, is_stored, stored_below, stored_pages};
 
 use crate::leaves::{Home, Marks, frame_under};
 use crate::refusal::Refusal;
@@ -15,6 +16,8 @@ impl<S: FrameSource + Drop, H: MappingHardware + Drop> Manager<S, H> {
         ensures arguments { TurnsDown (wrong_flush self.old.sizes (H.MappingHardware.at self.old.hardware) object (length list.old)) result ((self.new ≡ self.old) × (list.new ≡ list.old)) }
         ensures count { IfOk result (λ count. (count ≡ stored_below (H.MappingHardware.at self.old.hardware object) (slice_index self.old.sizes object))) }
         ensures within { IfOk result (λ count. (count ≤ length list.old)) }
+        ensures listed { IfOk result (λ count. take count list.new ≡ stored_pages (H.MappingHardware.at self.old.hardware object) (slice_index self.old.sizes object)) }
+        ensures later { IfOk result (λ count. SameFrom list.old list.new count) }
     {
         let size = self.check_flush(object, list)?;
         let count = self.list_stored(object, size, list);
@@ -60,6 +63,8 @@ impl<S: FrameSource + Drop, H: MappingHardware + Drop> Manager<S, H> {
     // Writes the stored pages to the list, rising, as far as it reaches, and tells their count.
     fn list_stored(&self, object: u8, size: u16, list: &mut [u16]) -> u16
         ensures within { result ≤ length list.old }
+        ensures listed { stored_below (H.MappingHardware.at self.now.hardware object) size ≤ length list.old → take result list.new ≡ stored_pages (H.MappingHardware.at self.now.hardware object) size }
+        ensures later { SameFrom list.old list.new result }
         ensures counted { stored_below (H.MappingHardware.at self.now.hardware object) size ≤ length list.old → result ≡ stored_below (H.MappingHardware.at self.now.hardware object) size }
     {
         let mut count: u16 = 0;

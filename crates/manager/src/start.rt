@@ -1,4 +1,7 @@
-ghost use Rattle.std.specs.Prelude.{◌≡◌, ℕ, ◌+◌, ◌*◌, ◌^◌, ◌<◌, ◌≤◌, replicate, None, MatchResult};
+ghost use Rattle.std.specs.Prelude.{◌≡◌, ℕ, ◌+◌, ◌*◌, ◌^◌, ◌<◌, ◌≤◌, replicate, length, ◌&&◌, nat_le, Some, None, MatchResult};
+ghost use Rattle.std.specs.Int.{is_power_of_two};
+ghost use Rattle.manager.specs.Arguments.{wrong_start};
+ghost use Rattle.manager.specs.Refusals.{number_of};
 
 use crate::presence::Presence;
 use crate::refusal::Refusal;
@@ -25,7 +28,9 @@ pub struct RefusedStart<S: FrameSource + Drop, H: MappingHardware + Drop> {
 }
 
 // Whether a page may have so many words.
-fn are_words_a_page(words: u16) -> bool {
+fn are_words_a_page(words: u16) -> bool
+    ensures { result ≡ (is_power_of_two words && nat_le words 2048) }
+{
     words >= 1 && words <= 2048 && words.is_power_of_two()
 }
 
@@ -37,7 +42,8 @@ impl<S: FrameSource + Drop, H: MappingHardware + Drop> Manager<S, H> {
         words_a_page: u16,
         memory: &[u32],
     ) -> Result<AcceptedStart<S, H>, RefusedStart<S, H>>
-        ensures { MatchResult result (λ a. (a.source ≡ source) × (a.hardware ≡ hardware) × (a.words_a_page ≡ words_a_page)) (λ b. (b.source ≡ source) × (b.hardware ≡ hardware)) }
+        ensures reply { MatchResult result (λ _. wrong_start words_a_page (S.FrameSource.means source).total (length memory.now) ≡ None) (λ b. wrong_start words_a_page (S.FrameSource.means source).total (length memory.now) ≡ Some (number_of b.refusal)) }
+        ensures handed { MatchResult result (λ a. (a.source ≡ source) × (a.hardware ≡ hardware) × (a.words_a_page ≡ words_a_page)) (λ b. (b.source ≡ source) × (b.hardware ≡ hardware)) }
     {
         if !are_words_a_page(words_a_page) {
             return Err(RefusedStart {

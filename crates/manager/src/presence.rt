@@ -78,9 +78,8 @@ impl Presence {
 
 // Whether `count` places from `from` on, which lie in one word, are set.
 fn all_in_word(words: &[u64], from: usize, count: u16) -> bool
-    requires { (1 ≤ count) × (from % 64 + count ≤ 64) }
-    ensures yes { result ≡ true → (k : ℕ) → k < count → bit words.now (from + k) ≡ true }
-    ensures no { result ≡ false → ((k : ℕ) → k < count → bit words.now (from + k) ≡ true) → ⊥ }
+    ensures yes { from % 64 + count ≤ 64 → result ≡ true → (k : ℕ) → k < count → bit words.now (from + k) ≡ true }
+    ensures no { 1 ≤ count → from % 64 + count ≤ 64 → result ≡ false → ((k : ℕ) → k < count → bit words.now (from + k) ≡ true) → ⊥ }
 {
     let w = from / 64;
     if w >= words.len() || count == 0 || count > 64 {

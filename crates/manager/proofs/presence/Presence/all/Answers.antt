@@ -17,14 +17,11 @@ of_turn c =
     turn c.args.object b.first b.order c.loop-at.at c.min-wanted.result b.small b.aligned
     (omega (arith, f, i.from)) d (omega (arith, f, c.loop-at-test.true, c.count.ensures)) (c.min-wanted.ensures ∙ ap (λ x. min x 64) c.count-in-loop-at.ensures)
 
-pub all_in_word-requires : goal.all_in_word-requires
-all_in_word-requires c = let t = of_turn (goal.at.all_in_word-requires c).After-min-wanted in (t.some, t.word)
-
 pub returns-then-not-all_in_word-clause-no : goal.returns-then-not-all_in_word-clause-no
 returns-then-not-all_in_word-clause-no c =
     λ _ h.
     let t = of_turn (goal.at.returns-then-not-all_in_word-clause-no c).After-min-wanted in
-    c.all_in_word.ensures.no c.if-not-all_in_word.true (λ k l. h (c.loop-at.at + k) (omega (arith, c.loop-at.invariant.from, from (goal.at.returns-then-not-all_in_word-clause-no c).After-min-wanted)) (omega (arith, t.inside)))
+    c.all_in_word.ensures.no t.some t.word c.if-not-all_in_word.true (λ k l. h (c.loop-at.at + k) (omega (arith, c.loop-at.invariant.from, from (goal.at.returns-then-not-all_in_word-clause-no c).After-min-wanted)) (omega (arith, t.inside)))
 
 pub loop-at-preserved : goal.loop-at-preserved
 loop-at-preserved c =
@@ -40,7 +37,7 @@ loop-at-preserved c =
           (λ (l : c.loop-at.at ≤ j).
           let e : c.loop-at.at + (j - c.loop-at.at) ≡ j = omega arith in
           let w = t.whole j v (omega (arith, z, f)) in
-          subst (λ x. bit c.args.self.now.words x ≡ true) e (c.all_in_word.ensures.yes c.if-not-all_in_word.false (j - c.loop-at.at) (omega (arith, l, w))))
+          subst (λ x. bit c.args.self.now.words x ≡ true) e (c.all_in_word.ensures.yes t.word c.if-not-all_in_word.false (j - c.loop-at.at) (omega (arith, l, w))))
           (cases_lt j c.loop-at.at);
     }
 
@@ -50,9 +47,10 @@ returns-else-not-all_in_word-clause-yes c =
     let a = (goal.at.returns-else-not-all_in_word-clause-yes c).After-min-wanted in
     let f = from a in
     let m : j < c.loop-at.at + 64 = omega (arith, f, z, c.count.ensures) in
-    let w = (of_turn a).whole j m z in
+    let t = of_turn a in
+    let w = t.whole j m z in
     ⊎_elim (λ (l : j < c.loop-at.at). c.loop-at.invariant.set j (omega (arith, f, u)) l (omega (arith, f, z)))
     (λ (l : c.loop-at.at ≤ j).
     let e : c.loop-at.at + (j - c.loop-at.at) ≡ j = omega arith in
-    subst (λ x. bit c.args.self.now.words x ≡ true) e (c.all_in_word.ensures.yes c.if-not-all_in_word.false (j - c.loop-at.at) (omega (arith, l, w))))
+    subst (λ x. bit c.args.self.now.words x ≡ true) e (c.all_in_word.ensures.yes t.word c.if-not-all_in_word.false (j - c.loop-at.at) (omega (arith, l, w))))
     (cases_lt j c.loop-at.at)

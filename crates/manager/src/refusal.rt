@@ -1,5 +1,7 @@
 ghost use Rattle.std.specs.Prelude.{◌≡◌, Ok, Err};
 ghost use Rattle.manager.specs.Refusals.{number_of};
+ghost use Rattle.manager.specs.declared.refusal.Refusal.TheVariants.{NoFrame, Block, Give, Put, Clear};
+ghost use Rattle.frames.specs.declared.refusal.TakeError.TheVariants.{BadOrder, NoBlock};
 
 use blocks::aligned::BadBlock;
 use blocks::number::PageNumber;
@@ -83,6 +85,8 @@ pub fn placed_at<T, E: Drop>(res: Result<T, E>, object: u8, page: PageNumber) ->
 }
 
 impl From<At<TakeError>> for Refusal {
+    ghost from_gives = { λ e r. elim e.cause [ BadOrder ↦ r ≡ Block | NoBlock depth ↦ r ≡ NoFrame e.object e.page depth ] };
+
     fn from(e: At<TakeError>) -> Refusal {
         match e.cause {
             TakeError::BadOrder => Refusal::Block,
@@ -96,24 +100,32 @@ impl From<At<TakeError>> for Refusal {
 }
 
 impl From<BadBlock> for Refusal {
+    ghost from_gives = { λ _ r. r ≡ Block };
+
     fn from(_e: BadBlock) -> Refusal {
         Refusal::Block
     }
 }
 
 impl From<GiveError> for Refusal {
+    ghost from_gives = { λ e r. r ≡ Give e };
+
     fn from(e: GiveError) -> Refusal {
         Refusal::Give(e)
     }
 }
 
 impl From<PutError> for Refusal {
+    ghost from_gives = { λ e r. r ≡ Put e };
+
     fn from(e: PutError) -> Refusal {
         Refusal::Put(e)
     }
 }
 
 impl From<NoLeaf> for Refusal {
+    ghost from_gives = { λ _ r. r ≡ Clear };
+
     fn from(_e: NoLeaf) -> Refusal {
         Refusal::Clear
     }

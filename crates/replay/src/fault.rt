@@ -1,4 +1,5 @@
 ghost use Rattle.std.specs.Prelude.{◌≡◌, Ok, Err};
+ghost use Rattle.replay.specs.Faults.{TellsFault};
 
 use frames::refusal::BadSource;
 use manager::refusal::Refusal;
@@ -66,6 +67,8 @@ pub enum Fault {
 }
 
 impl From<Placed<Refusal>> for Fault {
+    ghost from_gives = { λ e f. TellsFault e.place e.cause f };
+
     fn from(e: Placed<Refusal>) -> Fault {
         match e.cause {
             Refusal::NoFrame { depth, .. } => Fault::NoFrame {

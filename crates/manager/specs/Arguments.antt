@@ -58,7 +58,7 @@ unfoldable pub stored_below : (ℕ → Option Leaf) → ℕ → ℕ
 stored_below at zero = 0
 stored_below at (suc n) = cond (is_stored (at n)) 1 0 + stored_below at n
 
--- the stored ones of an object's first pages, rising
+-- which of an object's first pages are stored, rising: as many as `stored_below` counts
 unfoldable pub stored_pages : (ℕ → Option Leaf) → ℕ → List ℕ
 stored_pages at zero = []
 stored_pages at (suc n) = stored_pages at n ++ cond (is_stored (at n)) (n ∷ []) []

@@ -1,7 +1,8 @@
-ghost use Rattle.std.specs.Prelude.{◌≡◌, ℕ, ◌+◌, ◌*◌, ◌^◌, ◌<◌, ◌≤◌, replicate, length, ◌&&◌, nat_le, Some, None, MatchResult};
+ghost use Rattle.std.specs.Prelude.{◌≡◌, ℕ, ◌+◌, ◌*◌, ◌^◌, ◌<◌, ◌≤◌, replicate, length, ◌&&◌, nat_le, false, Some, None, MatchResult};
 ghost use Rattle.std.specs.Int.{is_power_of_two};
 ghost use Rattle.manager.specs.Arguments.{wrong_start};
 ghost use Rattle.manager.specs.Refusals.{number_of};
+ghost use Rattle.blocks.specs.Bit.{bit};
 
 use crate::presence::Presence;
 use crate::refusal::Refusal;
@@ -69,6 +70,7 @@ impl<S: FrameSource + Drop, H: MappingHardware + Drop> Manager<S, H> {
     // A manager with all objects closed and no leaf.
     pub fn start(accepted: AcceptedStart<S, H>) -> Manager<S, H>
         ensures cleared { (o : ℕ) (p : ℕ) → H.MappingHardware.at result.hardware o p ≡ None }
+        ensures absent { (j : ℕ) → bit result.present.words j ≡ false }
         ensures source { result.source ≡ accepted.source }
         ensures empty { (result.sizes ≡ replicate 4 0) × (result.reserved.count ≡ 0) × (result.words_a_page ≡ accepted.words_a_page) }
     {

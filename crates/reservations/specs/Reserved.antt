@@ -11,10 +11,10 @@ block_size r = cond (nat_le r.order 9) (2 ^ r.order) 0
 abbrev pub covers : Reservation → (object page : ℕ) → Bool
 covers r object page = r.object == object && (nat_le r.first.0 page && nat_lt (page - r.first.0) (block_size r))
 
--- whether one of its pages is among the 2 ^ order pages of the object from `first` on
+-- whether one of its pages is among the 2 ^ order pages of the object from `first` on, where its own order is that of a block
 abbrev pub meets : Reservation → (object first order : ℕ) → Bool
 meets r object first order = r.object == object && (nat_lt r.first.0 (first + 2 ^ order) && nat_lt first (r.first.0 + block_size r))
 
--- how many of its frames no page is present in, by the marks of its population map
+-- how many of its frames no page is present in, by the marks of its population map, where these are all of its own pages
 abbrev pub empty_frames : Reservation → ℕ
 empty_frames r = block_size r - bits_set r.population

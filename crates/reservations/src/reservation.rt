@@ -71,7 +71,7 @@ impl Reservation {
         self.object == object && self.first <= page && self.distance(page) < self.count()
     }
 
-    // Whether it covers a page of the block.
+    // Whether it covers a page of the block, where its own order is that of a block.
     pub fn meets(&self, object: u8, pages: PageBlock) -> bool
         ensures { result ≡ meets self.now object pages.block.first pages.block.order }
     {
@@ -129,7 +129,7 @@ impl Reservation {
         }
     }
 
-    // How many of its pages are present.
+    // How many marks its population map has: its present pages.
     pub fn present(&self) -> u16
         ensures within { result ≤ 512 }
         ensures marks { result ≡ bits_set self.now.population }

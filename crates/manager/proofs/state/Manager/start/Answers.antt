@@ -16,6 +16,7 @@ returns g c =
         | inl l ↦ c.loop-object.invariant o (omega arith) p
         | inr h ↦ no_object _ _ o p (g.met.H.MappingHardware.lawful c.loop-object.hardware o p) h
       ];
+      absent = search rules;
       source = refl;
       empty = search rules;
     }

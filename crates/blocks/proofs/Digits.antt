@@ -1,8 +1,9 @@
-use Rattle.std.proofs.Common.{◌≡◌, ℕ, zero, suc, ◌+◌, ◌-◌, ◌*◌, ◌/◌, ◌%◌, ◌^◌, ◌<◌, ◌≤◌, min, max, true, false, eqb, List, length, get_or, set, replicate, sym, refl, ap, ◌∙◌, subst, ⊎_elim, one-mul, arith}
+use Rattle.std.proofs.Common.{◌≡◌, ℕ, zero, suc, ◌+◌, ◌-◌, ◌*◌, ◌/◌, ◌%◌, ◌^◌, ◌<◌, ◌≤◌, min, max, true, false, eqb, List, length, get_or, set, replicate, take, drop, sym, refl, ap, ◌∙◌, subst, ⊎_elim, one-mul, arith}
 use lib.Bits.{bit_and, bit_or, bit_xor, and_step, or_step, xor_step, and_shr, or_shr, xor_shr, differ}
 use lib.Count.{count_trailing_zeros, under}
 use Rattle.std.proofs.lemmas.Nat.{pow_pos, pow-add, pow_below, one_shl, shr-shr, shr_below}
-use Rattle.std.proofs.lemmas.List.{get_or-set_same, get_or-set_other, get_or_past, get_or-replicate, length-replicate}
+use Rattle.std.proofs.lemmas.List.{get_or-set_same, get_or-set_other, get_or_past, get_or-replicate, length-replicate, get_or-take, get_or-drop}
+use lib.ListN.{length-take, length-drop}
 use Rattle.std.proofs.lemmas.Bool.{cases_eq, cases_order, cases_lt, eq-eqb, ne_eqb}
 use native.Mathlib.Nat.{div-eq_of_lt, div-eq_of_eq-mul_left}
 use Rattle.blocks.specs.Bit.{digit, bit}
@@ -81,6 +82,14 @@ write_same ws w v j lt e = rw (e, get_or-set_same ws w v 0 lt) refl
 pub write_other : (ws : List ℕ) (w v j : ℕ) → (j / 64 ≡ w → ⊥) → bit (set ws w v) j ≡ bit ws j
 write_other ws w v j ne = rw (get_or-set_other ws w (j / 64) v 0 ne) refl
 
+-- a bit that the new word keeps
+pub write_kept : (ws : List ℕ) (w v j : ℕ) → w < length ws → (j / 64 ≡ w → digit v (j % 64) ≡ digit (get_or ws w 0) (j % 64)) → bit (set ws w v) j ≡ bit ws j
+write_kept ws w v j l k =
+    ⊎_elim
+    (λ e. write_same ws w v j l e ∙ rw (k e, e) refl)
+    (λ d. write_other ws w v j d)
+    (cases_eq (j / 64) w)
+
 pub mask_self : (i : ℕ) → digit ((1 * 2 ^ (i % 64)) % 18446744073709551616) (i % 64) ≡ 1
 mask_self i = rw (one_shl (i % 64) 64 (omega arith)) (digit_self (i % 64))
 
@@ -92,40 +101,6 @@ bit_past ws i h = ne_eqb _ 1 (rw (get_or_past ws (i / 64) 0 h) (digit_zero (i % 
   where
     digit_zero : (k : ℕ) → digit 0 k ≡ 1 → ⊥
     digit_zero k e = omega (arith, e, div-eq_of_lt (pow_pos k))
-
--- what `|=` and the clearing write do
-abbrev pub mask : ℕ → ℕ
-mask i = (1 * 2 ^ (i % 64)) % 18446744073709551616
-
-pub set_here : (ws : List ℕ) (i : ℕ) → i / 64 < length ws → bit (set ws (i / 64) (bit_or (get_or ws (i / 64) 0) (mask i))) i ≡ true
-set_here ws i h =
-    write_same ws (i / 64) _ i h refl
-    ∙ eq-eqb _ 1 (omega (arith, digit_or (get_or ws (i / 64) 0) (mask i) (i % 64), mask_self i))
-
-pub set_others : (ws : List ℕ) (i j : ℕ) → i / 64 < length ws → (j ≡ i → ⊥) → bit (set ws (i / 64) (bit_or (get_or ws (i / 64) 0) (mask i))) j ≡ bit ws j
-set_others ws i j h ne =
-    ⊎_elim
-    (λ e. write_same ws (i / 64) _ j h e
-    ∙ (let same : digit (bit_or (get_or ws (i / 64) 0) (mask i)) (j % 64) ≡ digit (get_or ws (i / 64) 0) (j % 64) =
-    omega (arith, digit_or (get_or ws (i / 64) 0) (mask i) (j % 64), mask_other i (j % 64) (λ m. ne (omega arith))) in
-    rw (same, e) refl))
-    (λ d. write_other ws (i / 64) _ j d)
-    (cases_eq (j / 64) (i / 64))
-
-pub clear_here : (ws : List ℕ) (i : ℕ) → i / 64 < length ws → bit (set ws (i / 64) (bit_xor (get_or ws (i / 64) 0) (bit_and (get_or ws (i / 64) 0) (mask i)))) i ≡ false
-clear_here ws i h =
-    write_same ws (i / 64) _ i h refl
-    ∙ ne_eqb _ 1 (λ e. omega (arith, e, digit_xor (get_or ws (i / 64) 0) (bit_and (get_or ws (i / 64) 0) (mask i)) (i % 64), digit_and (get_or ws (i / 64) 0) (mask i) (i % 64), mask_self i))
-
-pub clear_others : (ws : List ℕ) (i j : ℕ) → i / 64 < length ws → (j ≡ i → ⊥) → bit (set ws (i / 64) (bit_xor (get_or ws (i / 64) 0) (bit_and (get_or ws (i / 64) 0) (mask i)))) j ≡ bit ws j
-clear_others ws i j h ne =
-    ⊎_elim
-    (λ e. write_same ws (i / 64) _ j h e
-    ∙ (let same : digit (bit_xor (get_or ws (i / 64) 0) (bit_and (get_or ws (i / 64) 0) (mask i))) (j % 64) ≡ digit (get_or ws (i / 64) 0) (j % 64) =
-    omega (arith, digit_xor (get_or ws (i / 64) 0) (bit_and (get_or ws (i / 64) 0) (mask i)) (j % 64), digit_and (get_or ws (i / 64) 0) (mask i) (j % 64), mask_other i (j % 64) (λ m. ne (omega arith))) in
-    rw (same, e) refl))
-    (λ d. write_other ws (i / 64) _ j d)
-    (cases_eq (j / 64) (i / 64))
 
 pub none : (n j : ℕ) → bit (replicate n 0) j ≡ false
 none n j =
@@ -186,3 +161,41 @@ found_whole ws i w f b p before l e =
     let d : get_or ws w 0 / 2 ^ 0 ≡ get_or ws w 0 = omega arith in
     found ws i w 0 f (omega arith) b (omega arith) (λ j lo hi. before j lo (omega arith)) (omega arith)
     (e ∙ rw d (omega arith))
+
+-- the bits of a word that is 0
+pub zero_word : (ws : List ℕ) (j : ℕ) → get_or ws (j / 64) 0 ≡ 0 → bit ws j ≡ false
+zero_word ws j z = first_none ws (j / 64) 0 (rw z refl) j (omega arith) (omega arith)
+
+-- the words of a part of the row, of which the first m are 0
+pub zero_part : (ws : List ℕ) (a n m : ℕ) → m ≤ n → ((k : ℕ) → k < m → k < length (take n (drop a ws)) → get_or (take n (drop a ws)) k 0 ≡ 0)
+    → (j : ℕ) → a * 64 ≤ j → j < (a + m) * 64 → bit ws j ≡ false
+zero_part ws a n m l z j lo hi =
+    ⊎_elim
+    (λ (b : j / 64 < length ws).
+    let k : ℕ = j / 64 - a in
+    let s : a + (j / 64 - a) ≡ j / 64 = omega arith in
+    let p : j / 64 - a < length (take n (drop a ws)) = omega (arith, length-take n (drop a ws), length-drop a ws) in
+    let e : get_or ws (a + (j / 64 - a)) 0 ≡ 0 =
+    sym (get_or-drop a ws (j / 64 - a) 0) ∙ sym (get_or-take n (drop a ws) (j / 64 - a) 0 (omega arith)) ∙ z (j / 64 - a) (omega arith) p in
+    zero_word ws j (ap (λ (x : ℕ). get_or ws x 0) (sym s) ∙ e))
+    (λ (b : length ws ≤ j / 64). bit_past ws j b)
+    (cases_lt (j / 64) (length ws))
+
+pub part_word : (ws : List ℕ) (a n k : ℕ) → k < n → get_or (take n (drop a ws)) k 0 ≡ get_or ws (a + k) 0
+part_word ws a n k l = get_or-take n (drop a ws) k 0 l ∙ get_or-drop a ws k 0
+
+-- the first set bit from i on, where the word of i has none and the words after it have their first at w of the n that are looked at
+pub found_later : (ws : List ℕ) (i n w : ℕ) → get_or ws (i / 64) 0 / 2 ^ (i % 64) ≡ 0
+    → (w < length (take n (drop (i / 64 + 1) ws))) × (0 < get_or (take n (drop (i / 64 + 1) ws)) w 0) × ((k : ℕ) → k < w → get_or (take n (drop (i / 64 + 1) ws)) k 0 ≡ 0)
+    → get_or ws (i / 64 + 1 + w) 0 < 2 ^ 64
+    → let f : ℕ = (i / 64 + 1 + w) * 64 + count_trailing_zeros 64 (get_or ws (i / 64 + 1 + w) 0) in
+    (i ≤ f) × (bit ws f ≡ true) × ((j : ℕ) → i ≤ j → j < f → bit ws j ≡ false)
+found_later ws i n w e s b =
+    let l : w < n = omega (arith, s.0, length-take n (drop (i / 64 + 1) ws)) in
+    found_whole ws i (i / 64 + 1 + w) ((i / 64 + 1 + w) * 64 + count_trailing_zeros 64 (get_or ws (i / 64 + 1 + w) 0))
+    b (omega (arith, s.1, part_word ws (i / 64 + 1) n w l))
+    (λ j lo hi. ⊎_elim
+    (λ (u : j < i / 64 * 64 + 64). first_none ws (i / 64) (i % 64) e j (omega arith) u)
+    (λ (u : i / 64 * 64 + 64 ≤ j). zero_part ws (i / 64 + 1) n w (omega arith) (λ k a h. s.2 k a) j (omega arith) hi)
+    (cases_lt j (i / 64 * 64 + 64)))
+    (omega arith) refl

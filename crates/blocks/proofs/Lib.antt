@@ -1,4 +1,4 @@
-pub mod Counts
 pub mod Digits
+pub mod Parts
 pub mod Runs
 pub mod Spans

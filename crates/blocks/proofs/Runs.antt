@@ -1,11 +1,8 @@
-use Rattle.std.proofs.Common.{◌≡◌, ℕ, suc, ◌+◌, ◌-◌, ◌*◌, ◌/◌, ◌%◌, ◌^◌, ◌<◌, ◌≤◌, true, false, List, length, get_or, set, sym, refl, ap, ◌∙◌, subst, ⊎_elim, mul-le-mul_right, mod-lt, mul_assoc, suc-mul, arith, pow_mono, shl_lt, shl_exact}
+use Rattle.std.proofs.Common.{◌≡◌, ℕ, suc, ◌+◌, ◌-◌, ◌*◌, ◌/◌, ◌%◌, ◌^◌, ◌<◌, ◌≤◌, sym, refl, ap, ◌∙◌, subst, mul-le-mul_right, mod-lt, mul_assoc, suc-mul, arith, pow_mono, shl_lt, shl_exact}
 use native.Mathlib.Nat.{div-eq_of_lt, div-eq_of_eq-mul_left}
-use lib.Bits.{bit_and, bit_or, bit_xor}
 use lib.Pow.{ones_split, ones_lt, high, mod-pow-add, mod-mod-pow}
 use Rattle.std.proofs.lemmas.Nat.{pow_pos, pow-add, one_shl, shr-shr, shl-shr}
-use Rattle.std.proofs.lemmas.Bool.{cases_eq, eq-eqb, ne_eqb}
-use Rattle.blocks.specs.Bit.{digit, bit}
-use Rattle.blocks.proofs.Digits.{digit_or, digit_and, digit_xor, write_same, write_other}
+use Rattle.blocks.specs.Bit.{digit}
 
 -- c set digits from s on
 pub run_in : (c s k : ℕ) → s ≤ k → k < s + c → digit ((2 ^ c - 1) * 2 ^ s) k ≡ 1
@@ -45,60 +42,12 @@ aligned n o a h =
     let w : 2 ^ (6 - o) * 2 ^ o ≡ 64 = sym (pow-add 2 (6 - o) o) ∙ ap (λ (x : ℕ). 2 ^ x) s in
     omega (arith, e, l, w, suc-mul (n / 2 ^ o % 2 ^ (6 - o)) (2 ^ o))
 
-pub counted : (o : ℕ) → o ≤ 5 → ((1 * 2 ^ o) % 4294967296 ≡ 2 ^ o) × (2 ^ o ≤ 32)
-counted o a = (one_shl o 32 (omega arith), pow_mono {i = o} {j = 5} a)
-
 pub run_is : (n o : ℕ) → o ≤ 5 → n % 2 ^ o ≡ 0
-    → ((1 * 2 ^ ((1 * 2 ^ o) % 4294967296)) % 18446744073709551616 - 1) * 2 ^ (n % 64) % 18446744073709551616 ≡ (2 ^ (2 ^ o) - 1) * 2 ^ (n % 64)
+    → ((1 * 2 ^ 2 ^ o) % 18446744073709551616 - 1) * 2 ^ (n % 64) % 18446744073709551616 ≡ (2 ^ (2 ^ o) - 1) * 2 ^ (n % 64)
 run_is n o a h =
-    let c = counted o a in
-    let l : 2 ^ o < 64 = omega (arith, c.1) in
-    rw (c.0, one_shl (2 ^ o) 64 l) (shl_exact {a = 2 ^ (2 ^ o) - 1} (2 ^ o) (n % 64) 64 (ones_lt (2 ^ o)) (omega (arith, aligned n o (omega arith) h)))
-
--- a run of one word, set or cleared
-pub word_fill : (ws : List ℕ) (n c m : ℕ) → n / 64 < length ws → n % 64 + c ≤ 64
-    → ((k : ℕ) → n % 64 ≤ k → k < n % 64 + c → digit m k ≡ 1) → ((k : ℕ) → k < n % 64 → digit m k ≡ 0) → ((k : ℕ) → n % 64 + c ≤ k → digit m k ≡ 0)
-    → ((j : ℕ) → n ≤ j → j < n + c → bit (set ws (n / 64) (bit_or (get_or ws (n / 64) 0) m)) j ≡ true)
-    × ((j : ℕ) → j < n → bit (set ws (n / 64) (bit_or (get_or ws (n / 64) 0) m)) j ≡ bit ws j)
-    × ((j : ℕ) → n + c ≤ j → bit (set ws (n / 64) (bit_or (get_or ws (n / 64) 0) m)) j ≡ bit ws j)
-word_fill ws n c m l r mid lo hi = (
-  λ j a b. write_same ws (n / 64) _ j l (omega arith)
-      ∙ eq-eqb _ 1 (omega (arith, digit_or (get_or ws (n / 64) 0) m (j % 64), mid (j % 64) (omega arith) (omega arith))),
-  λ j a. keep j (λ e. lo (j % 64) (omega arith)),
-  λ j a. keep j (λ e. hi (j % 64) (omega arith)),
-)
-  where
-    keep : (j : ℕ) → (j / 64 ≡ n / 64 → digit m (j % 64) ≡ 0) → bit (set ws (n / 64) (bit_or (get_or ws (n / 64) 0) m)) j ≡ bit ws j
-    keep j z =
-        ⊎_elim
-        (λ e. write_same ws (n / 64) _ j l e
-        ∙ (let same : digit (bit_or (get_or ws (n / 64) 0) m) (j % 64) ≡ digit (get_or ws (n / 64) 0) (j % 64) =
-        omega (arith, digit_or (get_or ws (n / 64) 0) m (j % 64), z e) in
-        rw (same, e) refl))
-        (λ d. write_other ws (n / 64) _ j d)
-        (cases_eq (j / 64) (n / 64))
-
-pub word_empty : (ws : List ℕ) (n c m : ℕ) → n / 64 < length ws → n % 64 + c ≤ 64
-    → ((k : ℕ) → n % 64 ≤ k → k < n % 64 + c → digit m k ≡ 1) → ((k : ℕ) → k < n % 64 → digit m k ≡ 0) → ((k : ℕ) → n % 64 + c ≤ k → digit m k ≡ 0)
-    → ((j : ℕ) → n ≤ j → j < n + c → bit (set ws (n / 64) (bit_xor (get_or ws (n / 64) 0) (bit_and (get_or ws (n / 64) 0) m))) j ≡ false)
-    × ((j : ℕ) → j < n → bit (set ws (n / 64) (bit_xor (get_or ws (n / 64) 0) (bit_and (get_or ws (n / 64) 0) m))) j ≡ bit ws j)
-    × ((j : ℕ) → n + c ≤ j → bit (set ws (n / 64) (bit_xor (get_or ws (n / 64) 0) (bit_and (get_or ws (n / 64) 0) m))) j ≡ bit ws j)
-word_empty ws n c m l r mid lo hi = (
-  λ j a b. write_same ws (n / 64) _ j l (omega arith)
-      ∙ ne_eqb _ 1 (λ e. omega (arith, e, digit_xor (get_or ws (n / 64) 0) (bit_and (get_or ws (n / 64) 0) m) (j % 64), digit_and (get_or ws (n / 64) 0) m (j % 64), mid (j % 64) (omega arith) (omega arith))),
-  λ j a. keep j (λ e. lo (j % 64) (omega arith)),
-  λ j a. keep j (λ e. hi (j % 64) (omega arith)),
-)
-  where
-    keep : (j : ℕ) → (j / 64 ≡ n / 64 → digit m (j % 64) ≡ 0) → bit (set ws (n / 64) (bit_xor (get_or ws (n / 64) 0) (bit_and (get_or ws (n / 64) 0) m))) j ≡ bit ws j
-    keep j z =
-        ⊎_elim
-        (λ e. write_same ws (n / 64) _ j l e
-        ∙ (let same : digit (bit_xor (get_or ws (n / 64) 0) (bit_and (get_or ws (n / 64) 0) m)) (j % 64) ≡ digit (get_or ws (n / 64) 0) (j % 64) =
-        omega (arith, digit_xor (get_or ws (n / 64) 0) (bit_and (get_or ws (n / 64) 0) m) (j % 64), digit_and (get_or ws (n / 64) 0) m (j % 64), z e) in
-        rw (same, e) refl))
-        (λ d. write_other ws (n / 64) _ j d)
-        (cases_eq (j / 64) (n / 64))
+    let p : 2 ^ o ≤ 32 = pow_mono {i = o} {j = 5} a in
+    let l : 2 ^ o < 64 = omega arith in
+    rw (one_shl (2 ^ o) 64 l) (shl_exact {a = 2 ^ (2 ^ o) - 1} (2 ^ o) (n % 64) 64 (ones_lt (2 ^ o)) (omega (arith, aligned n o (omega arith) h)))
 
 -- whole words
 pub many : (n o : ℕ) → 6 ≤ o → o ≤ 9 → n % 2 ^ o ≡ 0 → (n ≡ n / 64 * 64) × (2 ^ o ≡ (1 * 2 ^ (o - 6)) % 18446744073709551616 * 64)
@@ -109,8 +58,5 @@ many n o a b h =
     let p = ap (λ (x : ℕ). 2 ^ x) s ∙ pow-add 2 (o - 6) 6 in
     (omega (arith, e, d), omega (arith, p, one_shl (o - 6) 64 (omega arith)))
 
-pub full_word : (ws : List ℕ) (w j : ℕ) → w < length ws → j / 64 ≡ w → bit (set ws w 18446744073709551615) j ≡ true
-full_word ws w j l e = write_same ws w _ j l e ∙ eq-eqb _ 1 (run_in 64 0 (j % 64) (omega arith) (omega arith))
-
-pub empty_word : (ws : List ℕ) (w j : ℕ) → w < length ws → j / 64 ≡ w → bit (set ws w 0) j ≡ false
-empty_word ws w j l e = write_same ws w _ j l e ∙ ne_eqb _ 1 (λ h. omega (arith, h, run_high 0 0 (j % 64) (omega arith)))
+pub full_mask : (k : ℕ) → k < 64 → digit 18446744073709551615 k ≡ 1
+full_mask k l = run_in 64 0 k (omega arith) (omega arith)

@@ -1,4 +1,5 @@
-use Rattle.std.specs.Prelude.{ℕ, ◌+◌, ◌/◌, ◌%◌, ◌^◌, Bool, List, [], ◌∷◌, ◌==◌, count_ones, slice_index}
+use Rattle.std.specs.Prelude.{ℕ, ◌/◌, ◌%◌, ◌^◌, Bool, List, ◌==◌, count_ones, slice_index}
+use Rattle.std.specs.List.{sum_by}
 
 -- the binary digit k of n
 abbrev pub digit : ℕ → ℕ → ℕ
@@ -9,6 +10,5 @@ abbrev pub bit : List ℕ → ℕ → Bool
 bit ws i = digit (slice_index ws (i / 64)) (i % 64) == 1
 
 -- how many bits of a row are set
-unfoldable pub bits_set : List ℕ → ℕ
-bits_set [] = 0
-bits_set (w ∷ ws) = count_ones w + bits_set ws
+abbrev pub bits_set : List ℕ → ℕ
+bits_set = sum_by count_ones

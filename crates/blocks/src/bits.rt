@@ -1,4 +1,4 @@
-ghost use Rattle.std.specs.Prelude.{◌≡◌, ℕ, ◌+◌, ◌-◌, ◌*◌, ◌/◌, ◌%◌, ◌^◌, ◌<◌, ◌≤◌, true, false, length, set, Some, None, ◌≢◌};
+ghost use Rattle.std.specs.Prelude.{◌≡◌, ℕ, ◌+◌, ◌-◌, ◌*◌, ◌/◌, ◌%◌, ◌^◌, ◌<◌, ◌≤◌, ◌&&◌, ◌==◌, if◌then◌else◌, true, false, length, Some, None, ◌≢◌, nat_lt, slice_index};
 ghost use Rattle.blocks.specs.Bit.{bit, bits_set, digit};
 
 use crate::aligned::AlignedBlock;
@@ -10,32 +10,36 @@ pub fn get(words: &[u64], place: usize) -> bool
     ensures { result ≡ bit words.now place }
 {
     let w = place / 64;
-    if w < words.len() {
-        (words[w] >> (place % 64)) & 1 == 1
+    w < words.len() && (words[w] >> (place % 64)) & 1 == 1
+}
+
+// The word with `value` at each bit that the mask has; the others stay.
+fn masked(word: u64, mask: u64, value: bool) -> u64
+    ensures on { (k : ℕ) → digit mask k ≡ 1 → (digit result k == 1) ≡ value }
+    ensures off { (k : ℕ) → digit mask k ≡ 0 → digit result k ≡ digit word k }
+{
+    if value {
+        word | mask
     } else {
-        false
+        word ^ (word & mask)
     }
 }
 
-pub fn set(words: &mut [u64], place: usize)
-    ensures here { place / 64 < length words.old → bit words.new place ≡ true }
+pub fn set(words: &mut [u64], place: usize, value: bool)
+    ensures here { bit words.new place ≡ (value && nat_lt (place / 64) (length words.old)) }
     ensures others { (j : ℕ) → (j ≢ place) → bit words.new j ≡ bit words.old j }
 {
     let w = place / 64;
     if w < words.len() {
-        words[w] |= 1u64 << (place % 64);
+        words[w] = masked(words[w], 1u64 << (place % 64), value);
     }
 }
 
-pub fn clear(words: &mut [u64], place: usize)
-    ensures here { bit words.new place ≡ false }
-    ensures others { (j : ℕ) → (j ≢ place) → bit words.new j ≡ bit words.old j }
+// The first word that has a set bit.
+fn first_used(words: &[u64]) -> Option<usize>
+    ensures { elim result [ Some w ↦ (w < length words.now) × (0 < slice_index words.now w) × ((k : ℕ) → k < w → slice_index words.now k ≡ 0) | None ↦ (k : ℕ) → k < length words.now → slice_index words.now k ≡ 0 ] }
 {
-    let w = place / 64;
-    if w < words.len() {
-        let x = words[w];
-        words[w] = x ^ (x & (1u64 << (place % 64)));
-    }
+    words.iter().position(|word| *word != 0)
 }
 
 // The lowest set place from `from` on and below `to`.
@@ -55,82 +59,37 @@ pub fn first_in(words: &[u64], from: usize, to: usize) -> Option<usize>
         return if at < to { Some(at) } else { None };
     }
     let last = ((to - 1) / 64 + 1).min(words.len());
-    for w in first + 1..last {
-        let y = words[w];
-        if y != 0 {
-            let at = w * 64 + y.trailing_zeros() as usize;
-            return if at < to { Some(at) } else { None };
-        }
-    }
-    None
+    let w = first + 1 + first_used(&words[first + 1..last])?;
+    let at = w * 64 + words[w].trailing_zeros() as usize;
+    if at < to { Some(at) } else { None }
 }
 
 // The bits of one word that a block of at most 32 places has.
-fn run(first: usize, order: u8) -> u64
-    requires { (order ≤ 5) × (first % 2 ^ order ≡ 0) }
-    ensures { (((k : ℕ) → first % 64 ≤ k → k < first % 64 + 2 ^ order → digit result k ≡ 1)) × ((((k : ℕ) → k < first % 64 → digit result k ≡ 0)) × (((k : ℕ) → first % 64 + 2 ^ order ≤ k → digit result k ≡ 0))) }
+fn run(block: AlignedBlock) -> u64
+    requires { block.order ≤ 5 }
+    ensures here { (k : ℕ) → block.first % 64 ≤ k → k < block.first % 64 + 2 ^ block.order → digit result k ≡ 1 }
+    ensures below { (k : ℕ) → k < block.first % 64 → digit result k ≡ 0 }
+    ensures above { (k : ℕ) → block.first % 64 + 2 ^ block.order ≤ k → digit result k ≡ 0 }
 {
-    ((1u64 << (1u32 << order)) - 1) << (first % 64)
+    ((1u64 << block.count()) - 1) << (block.first() % 64)
 }
 
-fn fill_from(words: &mut [u64], first: usize, order: u8)
-    requires { (order ≤ 9) × ((first % 2 ^ order ≡ 0) × (first < 2048)) }
-    ensures here { (j : ℕ) → first ≤ j → j < first + 2 ^ order → j / 64 < length words.old → bit words.new j ≡ true }
-    ensures below { (j : ℕ) → j < first → bit words.new j ≡ bit words.old j }
-    ensures above { (j : ℕ) → first + 2 ^ order ≤ j → bit words.new j ≡ bit words.old j }
-{
-    let from = first / 64;
-    if from >= words.len() {
-        return;
-    }
-    if order < 6 {
-        let x = words[from];
-        words[from] = x | run(first, order);
-        return;
-    }
-    let to = (from + (1usize << (order - 6))).min(words.len());
-    for w in from..to {
-        words[w] = u64::MAX;
-    }
-}
-
-fn wipe_from(words: &mut [u64], first: usize, order: u8)
-    requires { (order ≤ 9) × ((first % 2 ^ order ≡ 0) × (first < 2048)) }
-    ensures here { (j : ℕ) → first ≤ j → j < first + 2 ^ order → bit words.new j ≡ false }
-    ensures below { (j : ℕ) → j < first → bit words.new j ≡ bit words.old j }
-    ensures above { (j : ℕ) → first + 2 ^ order ≤ j → bit words.new j ≡ bit words.old j }
-{
-    let from = first / 64;
-    if from >= words.len() {
-        return;
-    }
-    if order < 6 {
-        let x = words[from];
-        words[from] = x ^ (x & run(first, order));
-        return;
-    }
-    let to = (from + (1usize << (order - 6))).min(words.len());
-    for w in from..to {
-        words[w] = 0;
-    }
-}
-
-// Sets the places of a block, a word at a time.
-pub fn fill(words: &mut [u64], block: AlignedBlock)
-    ensures here { (j : ℕ) → block.first ≤ j → j < block.first + 2 ^ block.order → j / 64 < length words.old → bit words.new j ≡ true }
+// Gives the places of a block one value, a word at a time.
+pub fn fill(words: &mut [u64], block: AlignedBlock, value: bool)
+    ensures here { (j : ℕ) → block.first ≤ j → j < block.first + 2 ^ block.order → bit words.new j ≡ (value && nat_lt (j / 64) (length words.old)) }
     ensures below { (j : ℕ) → j < block.first → bit words.new j ≡ bit words.old j }
     ensures above { (j : ℕ) → block.first + 2 ^ block.order ≤ j → bit words.new j ≡ bit words.old j }
 {
-    fill_from(words, block.first() as usize, block.order());
-}
-
-// Clears the places of a block, a word at a time.
-pub fn wipe(words: &mut [u64], block: AlignedBlock)
-    ensures here { (j : ℕ) → block.first ≤ j → j < block.first + 2 ^ block.order → bit words.new j ≡ false }
-    ensures below { (j : ℕ) → j < block.first → bit words.new j ≡ bit words.old j }
-    ensures above { (j : ℕ) → block.first + 2 ^ block.order ≤ j → bit words.new j ≡ bit words.old j }
-{
-    wipe_from(words, block.first() as usize, block.order());
+    let from = block.first() as usize / 64;
+    if from >= words.len() {
+        return;
+    }
+    if block.order() < 6 {
+        words[from] = masked(words[from], run(block), value);
+        return;
+    }
+    let to = (from + (1usize << (block.order() - 6))).min(words.len());
+    words[from..to].fill(masked(0, u64::MAX, value));
 }
 
 // How many places are set.

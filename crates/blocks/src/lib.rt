@@ -1,4 +1,4 @@
-// Page numbers, frame numbers, aligned blocks of either, and rows of bits.
+// Page and frame numbers, aligned blocks of either, a page or a block of an object, rows of bits, what a refusal hands back.
 
 #![tactic(auto)]
 
@@ -6,3 +6,4 @@ pub mod aligned;
 pub mod bits;
 pub mod block;
 pub mod number;
+pub mod refused;

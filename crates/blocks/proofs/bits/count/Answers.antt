@@ -1,23 +1,13 @@
-use Rattle.std.proofs.Common.{◌+◌, sym, ap, ◌∙◌, arith}
-use Rattle.std.proofs.lemmas.List.{take_all}
-use Rattle.blocks.specs.Bit.{bits_set}
-use Rattle.blocks.proofs.Counts.{set_none, set_more, set_part, bits_set_le}
+use Rattle.std.proofs.Common.{◌≤◌, get_or, arith}
+use lib.Count.{ones}
+use Rattle.std.proofs.lemmas.Nat.{ones-le}
+use Rattle.std.proofs.lemmas.List.Elements.{All-from_get_or}
+use Rattle.std.proofs.lemmas.List.Sums.{sum_by-le}
 use Rattle.blocks.proofs.bits.count.Goals as goal
 
-pub loop-word-init : goal.loop-word-init
-loop-word-init c = λ _. sym set_none
-
-pub loop-word-preserved : goal.loop-word-preserved
-loop-word-preserved c =
-    λ h.
-    let i = c.loop-word.invariant h in
-    let m = set_more c.args.words.now c.loop-word.word-index c.loop-word-test.true in
-    let p = set_part c.args.words.now (c.loop-word.word-index + 1) in
-    let s = c.saturating_add-n.ensures in
-    omega (arith, i, m, p, s)
-
+-- a word has at most 64 set bits
 pub returns-clause-few : goal.returns-clause-few
-returns-clause-few c = bits_set_le c.args.words.now (λ k. omega (arith, c.type_inv.words k))
-
-pub returns-clause-set : goal.returns-clause-set
-returns-clause-set c = λ h. c.loop-word.invariant h ∙ ap bits_set (take_all c.loop-word.word-index c.args.words.now c.loop-word-test.false)
+returns-clause-few c =
+    let s = sum_by-le ones 64 c.args.words.now
+    (All-from_get_or (λ w. ones w ≤ 64) c.args.words.now 0 (λ k _. ones-le 64 (get_or c.args.words.now k 0) (omega (arith, c.type_inv.words k)))) in
+    omega (arith, s)

@@ -1,9 +1,0 @@
-use Rattle.std.proofs.Common.{◌≡◌, ℕ, ◌*◌, ◌<◌, ◌≤◌, false}
-use Rattle.blocks.specs.Bit.{bit}
-use Rattle.blocks.proofs.bits.wipe_from.Given as goal
-
-abbrev pub invariant-loop-w : goal.invariant-loop-w
-invariant-loop-w l =
-    ((j : ℕ) → l.initial.w * 64 ≤ j → j < l.w * 64 → bit l.words j ≡ false)
-    × ((j : ℕ) → j < l.initial.w * 64 → bit l.words j ≡ bit l.initial.words j)
-    × ((j : ℕ) → l.w * 64 ≤ j → bit l.words j ≡ bit l.initial.words j)

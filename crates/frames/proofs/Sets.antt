@@ -1,5 +1,5 @@
 use Rattle.std.proofs.Common.{◌≡◌, ℕ, zero, suc, ◌+◌, ◌-◌, ◌*◌, ◌/◌, ◌^◌, ◌<◌, ◌≤◌, Bool, true, false, cond, sym, refl, ap, ◌∙◌, subst, ⊎_elim, mul_assoc, arith}
-use Rattle.std.proofs.lemmas.Nat.{shl-shr, pow_pos, pow-add, shl_below}
+use Rattle.std.proofs.lemmas.Nat.{shl-shr, pow_pos, pow-add}
 use Rattle.std.proofs.lemmas.Bool.{cases_lt, cases_Bool, both_ways}
 use Rattle.blocks.proofs.Spans.{in_block, of_block, below}
 use Rattle.frames.specs.Source.{tally, Joined}
@@ -44,16 +44,16 @@ emptied_out F F' k r h f n =
     (cases_lt f (r * 2 ^ k))
 
 -- a take
-pub take_marks : (M M₁ M₂ F F' : ℕ → Bool) (m j k r n : ℕ) → k ≤ m → m ≤ 9 → j < 2 ^ (11 - m) → r ≡ j * 2 ^ (m - k)
-    → Marked M F → n ≡ node m j → M n ≡ true → M₁ n ≡ false → ((x : ℕ) → (x ≡ n → ⊥) → M₁ x ≡ M x)
+pub take_marks : (M M₁ M₂ F F' : ℕ → Bool) (m j k r : ℕ) → k ≤ m → m ≤ 9 → j < 2 ^ (11 - m) → r ≡ j * 2 ^ (m - k)
+    → Marked M F → M (node m j) ≡ true → M₁ (node m j) ≡ false → ((x : ℕ) → (x ≡ node m j → ⊥) → M₁ x ≡ M x)
     → ((p q : ℕ → Bool) → Marked M₁ p → Parts p q m j k r → Marked M₂ q)
     → Emptied F F' (r * 2 ^ k) (r * 2 ^ k + 2 ^ k) → Whole F k r × Marked M₂ F'
-take_marks M M₁ M₂ F F' m j k r n a c d e h at was here others go t =
-    let x : Max F m j = h.0 m j c d (ap M (sym at) ∙ was) in
+take_marks M M₁ M₂ F F' m j k r a c d e h was here others go t =
+    let x : Max F m j = h.0 m j c d was in
     let under : (f : ℕ) → f / 2 ^ k ≡ r → f / 2 ^ m ≡ j =
     λ f y. up f k m a ∙ ap (λ (z : ℕ). z / 2 ^ (m - k)) (y ∙ e) ∙ shl-shr j (m - k) in
     let h₁ : Marked M₁ (less F m j) =
-    marked_less M M₁ F (less F m j) m j c d (splits_less F m j x.0) x h (ap M₁ (sym at) ∙ here) (λ y o. others y (λ z. o (z ∙ at))) in (
+    marked_less M M₁ F (less F m j) m j c d (splits_less F m j x.0) x h here others in (
       λ f y. x.0 f (under f y),
       go (less F m j) F' h₁
           (record {
@@ -125,29 +125,24 @@ dry M F n l h none =
     (cases_Bool (F f)))
 
 -- what a take does, all told
-pub take_all : (M M₁ M₂ F F' : ℕ → Bool) (m j k r n b o total : ℕ) → k ≤ m → m ≤ 9 → j < 2 ^ (11 - m) → r ≡ j * 2 ^ (m - k)
+pub take_all : (M M₁ M₂ F F' : ℕ → Bool) (m j k r b o total : ℕ) → k ≤ m → m ≤ 9 → j < 2 ^ (11 - m) → r ≡ j * 2 ^ (m - k)
     → Marked M F → ((f : ℕ) → F f ≡ true → f < total)
-    → n ≡ node m j → M n ≡ true → M₁ n ≡ false → ((x : ℕ) → (x ≡ n → ⊥) → M₁ x ≡ M x)
+    → M (node m j) ≡ true → M₁ (node m j) ≡ false → ((x : ℕ) → (x ≡ node m j → ⊥) → M₁ x ≡ M x)
     → ((p q : ℕ → Bool) → Marked M₁ p → Parts p q m j k r → Marked M₂ q)
     → b ≡ r * 2 ^ k → o ≡ k
     → ((f : ℕ) → b ≤ f → f < b + 2 ^ o → F' f ≡ false) → ((f : ℕ) → f < b → F' f ≡ F f) → ((f : ℕ) → b + 2 ^ o ≤ f → F' f ≡ F f)
     → Joined F' F b (b + 2 ^ k) × Marked M₂ F' × (tally F total ≡ tally F' total + 2 ^ k) × ((f : ℕ) → F' f ≡ true → f < total)
-take_all M M₁ M₂ F F' m j k r n b o total a c d e h w at was here others go be oe g lo hi =
+take_all M M₁ M₂ F F' m j k r b o total a c d e h w was here others go be oe g lo hi =
     let p : 2 ^ o ≡ 2 ^ k = ap (λ (x : ℕ). 2 ^ x) oe in
     let t : Emptied F F' (r * 2 ^ k) (r * 2 ^ k + 2 ^ k) =
     record { gone = λ f x y. g f (omega arith) (omega arith); below = λ f x. lo f (omega arith); above = λ f x. hi f (omega arith) } in
-    let x = take_marks M M₁ M₂ F F' m j k r n a c d e h at was here others go t in
+    let x = take_marks M M₁ M₂ F F' m j k r a c d e h was here others go t in
     let z = take_joined F F' k r x.0 t in (
       subst (λ (y : ℕ). Joined F' F y (y + 2 ^ k)) (sym be) z,
       x.1,
       tally_joined F' F (r * 2 ^ k) (2 ^ k) total z (whole_within F k r total x.0 w),
       emptied_within F F' (r * 2 ^ k) (r * 2 ^ k + 2 ^ k) total z w,
     )
-
-pub cut_room : (m j k r : ℕ) → k ≤ m → m ≤ 9 → j < 2 ^ (11 - m) → r ≡ j * 2 ^ (m - k) → r < 2 ^ (11 - k)
-cut_room m j k r a c d e =
-    let t : 11 - m + (m - k) ≡ 11 - k = omega arith in
-    rw e (subst (λ (x : ℕ). j * 2 ^ (m - k) < 2 ^ x) t (shl_below j (11 - m) (m - k) d))
 
 -- what a give does, all told
 pub give_all : (M M' F F' : ℕ → Bool) (k o r b total : ℕ) → b ≡ r * 2 ^ k → o ≡ k → b + 2 ^ k ≤ total

@@ -6,3 +6,4 @@ pub mod Limited
 pub mod Laws
 pub mod Lists
 pub mod Tally
+pub mod Meanings

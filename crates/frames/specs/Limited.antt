@@ -1,5 +1,6 @@
 use Rattle.std.specs.Prelude.{◌≡◌, ℕ, ◌+◌, ◌^◌, ◌<◌, ◌≤◌, min, cond, Ok, Err, Result, nat_lt}
-use Rattle.blocks.specs.declared.block.FrameBlock.{FrameBlock}
+use Rattle.blocks.specs.declared.block.Block.{Block}
+use Rattle.blocks.specs.declared.number.FrameNumber.{FrameNumber}
 use Rattle.frames.specs.declared.refusal.GiveError.{GiveError}
 use Rattle.frames.specs.declared.refusal.TakeError.{TakeError}
 use Rattle.frames.specs.declared.refusal.TakeError.TheVariants.{BadOrder, NoBlock}
@@ -31,7 +32,7 @@ TakesThrough l s k l' t (refused n) = (l' ≡ l) × (t ≡ s)
 TakesThrough l s k l' t (none d) = (l' ≡ l) × (t ≡ s) × (l < 2 ^ k → d ≡ 0) × (2 ^ k ≤ l → d ≡ deeper (s.depth k))
 
 -- a give through a quota; what is left is kept in 16 bits
-abbrev pub GivesThrough : ℕ → Source → FrameBlock → ℕ → Source → Result (Unit {0}) GiveError → Type 0
+abbrev pub GivesThrough : ℕ → Source → Block FrameNumber → ℕ → Source → Result (Unit {0}) GiveError → Type 0
 GivesThrough l s b l' t (Ok _) = (l' ≡ min 65535 (l + 2 ^ b.block.order)) × Gave s b.block.first b.block.order t
 GivesThrough l s b l' t (Err e) = (l' ≡ l) × (t ≡ s)
 
@@ -40,6 +41,6 @@ abbrev pub InBounds : ℕ → Source → Type 0
 InBounds l s = l ≤ 2048 + s.avail
 
 -- so an accepted give raises what is left by the whole block
-abbrev pub Raised : ℕ → FrameBlock → ℕ → Result (Unit {0}) GiveError → Type 0
+abbrev pub Raised : ℕ → Block FrameNumber → ℕ → Result (Unit {0}) GiveError → Type 0
 Raised l b l' (Ok _) = l' ≡ l + 2 ^ b.block.order
 Raised l b l' (Err e) = l' ≡ l

@@ -1,6 +1,7 @@
 use Rattle.std.specs.Prelude.{◌≡◌, ℕ, zero, suc, ◌+◌, ◌-◌, ◌<◌, ◌≤◌, Bool, true, false, ◌&&◌, ◌||◌, ◌⊎◌, List, length, ◌==◌, ◌≢◌, nat_le, nat_lt, slice_index, slice_index_or, slice_set, refl}
 use Rattle.std.proofs.Common.{sym, ap, subst, ◌∙◌, inl, inr, ⊎_elim, arith, add-one}
 use Rattle.std.proofs.lemmas.List.{get_or-set_same, get_or-set_other}
+use Rattle.std.proofs.Math.Bool.{and-false, or-true, or-false}
 use Rattle.std.proofs.lemmas.Bool.{cases_eq, cases_lt, both_ways, eq-eqb, ne_eqb, lt-ltb, le-ltb, le-leb, lt-leb}
 use Rattle.frames.specs.Source.{tally, Joined}
 use Rattle.frames.specs.Listed.{listed, Distinct, AllBelow, Appended}
@@ -124,6 +125,45 @@ added_row xs ys b b' n first c h r is lo hi f =
 pub counted_by : (xs : List ℕ) (b : ℕ → Bool) (n m k : ℕ) → ((f : ℕ) → b f ≡ listed xs n f) → k ≡ tally b m → k ≤ tally (listed xs n) m
 counted_by xs b n m k r e = let s = tally_same b (listed xs n) m (λ f l. r f) in omega arith
 
+-- the frame of the last filled place leaves
+pub last_joined : (xs : List ℕ) (n b e : ℕ) → 0 < n → Distinct xs n → b ≡ slice_index xs (n - 1) → e ≡ b + 1 → Joined (listed xs (n - 1)) (listed xs n) b e
+last_joined xs zero b e z d x y = absurd (omega arith)
+last_joined xs (suc m) b e z d x y =
+    let p : suc m - 1 ≡ m = omega arith in
+    let q : b ≡ slice_index_or xs m 0 = subst (λ (i : ℕ). b ≡ slice_index xs i) p x in
+    subst (λ (i : ℕ). Joined (listed xs i) (listed xs (suc m)) b e) (sym p)
+    (record {
+      was = λ f u v. let r : f ≡ slice_index_or xs m 0 = omega arith in ap (listed xs m) r ∙ d m (omega arith);
+      is = λ f u v. here xs m f (omega arith);
+      below = λ f u. away xs m f (λ r. omega arith);
+      above = λ f u. away xs m f (λ r. omega arith);
+    })
+
+-- so there is room for it
+pub added_room : (b : ℕ → Bool) (n first c m : ℕ) → n ≡ tally b m → first + c ≤ m → ((f : ℕ) → first ≤ f → f < first + c → b f ≡ false) → n + c ≤ m
+added_room b n first c m e l was =
+    let q : ℕ → Bool = λ f. b f || (nat_le first f && nat_lt f (first + c)) in
+    let t = tally_run b q first c m (λ f u. out f (inl u)) (λ f u v. (was f u v, inside f u v)) (λ f u v. out f (inr u)) l in
+    let u = tally_le q m in
+    omega (arith, t, u)
+  where
+    out : (f : ℕ) → ((f < first) ⊎ (first + c ≤ f)) → (b f || (nat_le first f && nat_lt f (first + c))) ≡ b f
+    out f o =
+        ⊎_elim
+        (λ (u : f < first). ap (λ (x : Bool). b f || (x && nat_lt f (first + c))) (lt-leb first f u) ∙ or-false (b f))
+        (λ (u : first + c ≤ f). ap (λ (x : Bool). b f || (nat_le first f && x)) (le-ltb f (first + c) u) ∙ ap (λ (x : Bool). b f || x) (and-false (nat_le first f)) ∙ or-false (b f))
+        o
+
+    inside : (f : ℕ) → first ≤ f → f < first + c → (b f || (nat_le first f && nat_lt f (first + c))) ≡ true
+    inside f u v = ap (λ (x : Bool). b f || (x && nat_lt f (first + c))) (le-leb first f u) ∙ ap (λ (x : Bool). b f || x) (lt-ltb f (first + c) v) ∙ or-true (b f)
+
+pub listed_at : (xs : List ℕ) (n i f : ℕ) → i < n → slice_index xs i ≡ f → listed xs n f ≡ true
+listed_at xs zero i f l e = absurd (omega arith)
+listed_at xs (suc n) i f l e =
+    ⊎_elim (λ (y : slice_index_or xs n 0 ≡ f). here xs n f y)
+    (λ (o : slice_index_or xs n 0 ≡ f → ⊥). away xs n f o ∙ ⊎_elim (λ (y : i ≡ n). absurd (o (subst (λ (j : ℕ). slice_index xs j ≡ f) y e))) (λ (u : i ≡ n → ⊥). listed_at xs n i f (omega arith) e) (cases_eq i n))
+    (cases_eq (slice_index xs n) f)
+
 -- one number more is written
 pub appended_none : (xs : List ℕ) (n first : ℕ) → Appended xs xs n first 0
 appended_none xs n first = record { here = λ i l. absurd (omega arith); below = λ i l. refl; above = λ i l. refl }
@@ -141,20 +181,6 @@ appended_more xs ys n first c r h =
       above = λ i l. get_or-set_other ys (n + c) i (first + c) 0 (λ e. omega arith) ∙ h.above i (omega arith);
     }
 
--- the frame of the last filled place leaves
-pub last_joined : (xs : List ℕ) (n b e : ℕ) → 0 < n → Distinct xs n → b ≡ slice_index xs (n - 1) → e ≡ b + 1 → Joined (listed xs (n - 1)) (listed xs n) b e
-last_joined xs zero b e z d x y = absurd (omega arith)
-last_joined xs (suc m) b e z d x y =
-    let p : suc m - 1 ≡ m = omega arith in
-    let q : b ≡ slice_index_or xs m 0 = subst (λ (i : ℕ). b ≡ slice_index xs i) p x in
-    subst (λ (i : ℕ). Joined (listed xs i) (listed xs (suc m)) b e) (sym p)
-    (record {
-      was = λ f u v. let r : f ≡ slice_index_or xs m 0 = omega arith in ap (listed xs m) r ∙ d m (omega arith);
-      is = λ f u v. here xs m f (omega arith);
-      below = λ f u. away xs m f (λ r. omega arith);
-      above = λ f u. away xs m f (λ r. omega arith);
-    })
-
 -- a block's frames join
 pub added_joined : (xs ys : List ℕ) (n first c : ℕ) → Appended xs ys n first c → ((f : ℕ) → first ≤ f → f < first + c → listed xs n f ≡ false)
     → Joined (listed xs n) (listed ys (n + c)) first (first + c)
@@ -165,40 +191,3 @@ added_joined xs ys n first c h was =
       below = λ f u. added_out xs ys n first c h.here h.below f (inl u);
       above = λ f u. added_out xs ys n first c h.here h.below f (inr u);
     }
-
--- so there is room for it
-pub added_room : (b : ℕ → Bool) (n first c m : ℕ) → n ≡ tally b m → first + c ≤ m → ((f : ℕ) → first ≤ f → f < first + c → b f ≡ false) → n + c ≤ m
-added_room b n first c m e l was =
-    let q : ℕ → Bool = λ f. b f || (nat_le first f && nat_lt f (first + c)) in
-    let t = tally_run b q first c m (λ f u. out f (inl u)) (λ f u v. (was f u v, inside f u v)) (λ f u v. out f (inr u)) l in
-    let u = tally_le q m in
-    omega (arith, t, u)
-  where
-    or_false : (x : Bool) → (x || false) ≡ x
-    or_false true = refl
-    or_false false = refl
-
-    or_true : (x : Bool) → (x || true) ≡ true
-    or_true true = refl
-    or_true false = refl
-
-    and_false : (x : Bool) → (x && false) ≡ false
-    and_false true = refl
-    and_false false = refl
-
-    out : (f : ℕ) → ((f < first) ⊎ (first + c ≤ f)) → (b f || (nat_le first f && nat_lt f (first + c))) ≡ b f
-    out f o =
-        ⊎_elim
-        (λ (u : f < first). ap (λ (x : Bool). b f || (x && nat_lt f (first + c))) (lt-leb first f u) ∙ or_false (b f))
-        (λ (u : first + c ≤ f). ap (λ (x : Bool). b f || (nat_le first f && x)) (le-ltb f (first + c) u) ∙ ap (λ (x : Bool). b f || x) (and_false (nat_le first f)) ∙ or_false (b f))
-        o
-
-    inside : (f : ℕ) → first ≤ f → f < first + c → (b f || (nat_le first f && nat_lt f (first + c))) ≡ true
-    inside f u v = ap (λ (x : Bool). b f || (x && nat_lt f (first + c))) (le-leb first f u) ∙ ap (λ (x : Bool). b f || x) (lt-ltb f (first + c) v) ∙ or_true (b f)
-
-pub listed_at : (xs : List ℕ) (n i f : ℕ) → i < n → slice_index xs i ≡ f → listed xs n f ≡ true
-listed_at xs zero i f l e = absurd (omega arith)
-listed_at xs (suc n) i f l e =
-    ⊎_elim (λ (y : slice_index_or xs n 0 ≡ f). here xs n f y)
-    (λ (o : slice_index_or xs n 0 ≡ f → ⊥). away xs n f o ∙ ⊎_elim (λ (y : i ≡ n). absurd (o (subst (λ (j : ℕ). slice_index xs j ≡ f) y e))) (λ (u : i ≡ n → ⊥). listed_at xs n i f (omega arith) e) (cases_eq i n))
-    (cases_eq (slice_index xs n) f)

@@ -1,5 +1,6 @@
 use Rattle.std.specs.Prelude.{ℕ, Some, None, Ok, Err, Option, Result}
-use Rattle.blocks.specs.declared.block.FrameBlock.{FrameBlock}
+use Rattle.blocks.specs.declared.block.Block.{Block}
+use Rattle.blocks.specs.declared.number.FrameNumber.{FrameNumber}
 use Rattle.frames.specs.declared.refusal.TakeError.{TakeError}
 use Rattle.frames.specs.declared.refusal.TakeError.TheVariants.{BadOrder, NoBlock}
 use Rattle.frames.specs.declared.refusal.GiveError.{GiveError}
@@ -11,7 +12,7 @@ pub data TakeAnswer : Type 0 where
   refused : ℕ → TakeAnswer
   none : ℕ → TakeAnswer
 
-abbrev pub take_answer : Result FrameBlock TakeError → TakeAnswer
+abbrev pub take_answer : Result (Block FrameNumber) TakeError → TakeAnswer
 take_answer (Ok b) = given b.block.first b.block.order
 take_answer (Err BadOrder) = refused 12
 take_answer (Err (NoBlock d)) = none d

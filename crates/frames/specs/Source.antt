@@ -1,5 +1,6 @@
 use Rattle.std.specs.Prelude.{◌≡◌, ℕ, zero, suc, ◌+◌, ◌^◌, ◌<◌, ◌≤◌, Bool, true, false, cond, Ok, Err, Result}
-use Rattle.blocks.specs.declared.block.FrameBlock.{FrameBlock}
+use Rattle.blocks.specs.declared.block.Block.{Block}
+use Rattle.blocks.specs.declared.number.FrameNumber.{FrameNumber}
 use Rattle.frames.specs.declared.refusal.TakeError.{TakeError}
 use Rattle.frames.specs.declared.refusal.GiveError.{GiveError}
 use Rattle.frames.specs.Refusals.{TakeAnswer, given, refused, none, take_answer, give_number}
@@ -57,7 +58,7 @@ TakesBy s k t (given first order) = Took s k t first order
 TakesBy s k t (refused n) = (n ≡ 12) × (9 < k) × (t ≡ s)
 TakesBy s k t (none d) = NoneGiven s k t d
 
-abbrev pub Takes : Source → ℕ → Source → Result FrameBlock TakeError → Type 0
+abbrev pub Takes : Source → ℕ → Source → Result (Block FrameNumber) TakeError → Type 0
 Takes s k t r = TakesBy s k t (take_answer r)
 
 -- the block joined the free frames
@@ -82,12 +83,12 @@ pub record GiveRefused (s : Source) (first order : ℕ) (t : Source) (n : ℕ) :
   pub free : n ≡ 13 → Meets s.free first (first + 2 ^ order)
 
 -- a give of a block at s that leaves t
-abbrev pub Gives : Source → FrameBlock → Source → Result (Unit {0}) GiveError → Type 0
+abbrev pub Gives : Source → Block FrameNumber → Source → Result (Unit {0}) GiveError → Type 0
 Gives s b t (Ok _) = Gave s b.block.first b.block.order t
 Gives s b t (Err e) = GiveRefused s b.block.first b.block.order t (give_number e)
 
 -- a take that gave no block left the source's whole value as it was
-abbrev pub KeptByTake : {S : Type 0} → S → S → Result FrameBlock TakeError → Type 0
+abbrev pub KeptByTake : {S : Type 0} → S → S → Result (Block FrameNumber) TakeError → Type 0
 KeptByTake s t (Ok b) = Unit {0}
 KeptByTake s t (Err e) = t ≡ s
 

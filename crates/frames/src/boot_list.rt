@@ -1,75 +1,79 @@
-ghost use Rattle.std.specs.Prelude.{◌≡◌, ℕ, ◌+◌, ◌-◌, ◌*◌, ◌/◌, ◌%◌, ◌^◌, ◌<◌, ◌≤◌, Bool, true, false, length, Some, None, vec_len, MatchResult, OnOk};
+ghost use Rattle.std.specs.Prelude.{◌≡◌, ℕ, ◌+◌, ◌-◌, ◌*◌, ◌/◌, ◌%◌, ◌^◌, ◌<◌, ◌≤◌, Bool, true, false, length, Some, None, vec_len, MatchOption, MatchResult, OnOk};
 ghost use Rattle.blocks.specs.Bit.{bit};
 ghost use Rattle.frames.specs.Refusals.{take_answer};
-ghost use Rattle.frames.specs.Source.{plain, tally, Takes, Gives, KeptByTake, KeptByGive};
+ghost use Rattle.frames.specs.Source.{tally, Takes, Gives, KeptByTake, KeptByGive};
 ghost use Rattle.frames.specs.Listed.{listed, Distinct, AllBelow, Appended, TakesLast};
 ghost use Rattle.std.proofs.Common.{arith};
 ghost use Rattle.frames.specs.Lists.{below_of, counted_by};
 
-use crate::indexed::block_at;
+use crate::count::FrameCount;
+use crate::node::Node;
 use crate::refusal::{BadSource, GiveError, TakeError};
 use crate::source::FrameSource;
 use blocks::aligned::AlignedBlock;
 use blocks::bits;
 use blocks::block::FrameBlock;
+use blocks::refused::Refused;
 
-// Free frames kept in the first `filled` of the caller's places. The row of bits says the same of each frame, so that a give
-// need not look through the list.
+// Free frames kept in the first `filled` of the caller's places. The row of bits says the same of each frame, so that a
+// give need not look through the list. The memory is the caller's and goes back to it whole, and no place
+// is written but those that a give fills: so the filled places are a count beside it, and no list that grows.
 #[derive(Drop)]
 pub struct BootList {
-    frames: u16,
+    frames: FrameCount,
     places: Vec<u16>,
     filled: u16,
     free: [u64; 32],
-    ghost some: { 1 ≤ frames },
-    ghost small: { frames ≤ 2048 },
-    ghost room: { vec_len places ≡ frames },
-    ghost fits: { filled ≤ frames },
-    ghost long: { length free ≡ 32 },
-    ghost below: { AllBelow places.items filled frames },
+    ghost room: { vec_len places ≡ frames.number },
+    ghost fits: { filled ≤ frames.number },
+    ghost below: { AllBelow places.items filled frames.number },
     ghost distinct: { Distinct places.items filled },
     ghost row: { (f : ℕ) → bit free f ≡ listed places.items filled f },
-    ghost counted: { filled ≡ tally (bit free) frames },
+    ghost counted: { filled ≡ tally (bit free) frames.number },
 }
 
-// What a boot list may be made of.
+// What a boot list may be made of. Each source is checked first and made after, so that its making cannot fail.
 #[derive(Drop)]
 pub struct AcceptedBootList {
     list: BootList,
 }
 
-// The caller's places, handed back, and why no boot list is made of them.
-#[derive(Drop)]
-pub struct RefusedBootList {
-    pub places: Vec<u16>,
-    pub refusal: BadSource,
-}
-
-// The row of bits of the filled places, where these hold distinct frames.
-fn row_of(places: &[u16], filled: u16, frames: u16) -> Option<[u64; 32]>
-    requires { (filled ≤ length places.now) × (frames ≤ 2048) }
-    ensures { elim result [ Some row ↦ (length row ≡ 32) × ((f : ℕ) → bit row f ≡ listed places.now filled f) × Distinct places.now filled × AllBelow places.now filled frames × (filled ≡ tally (bit row) frames) | None ↦ (Distinct places.now filled → AllBelow places.now filled frames → ⊥) ] }
+// The row of bits of the filled places, where there are as many places as frames, and the filled ones hold distinct frames.
+fn row_of(frames: FrameCount, places: &[u16], filled: u16) -> Option<[u64; 32]>
+    ensures { MatchOption result (length places.now ≡ frames.number → filled ≤ frames.number → Distinct places.now filled → AllBelow places.now filled frames.number → ⊥) (λ row. (length places.now ≡ frames.number) × (filled ≤ frames.number) × ((f : ℕ) → bit row f ≡ listed places.now filled f) × Distinct places.now filled × AllBelow places.now filled frames.number × (filled ≡ tally (bit row) frames.number)) }
 {
-    let mut row = [0u64; 32];
-    for i in 0..filled {
-        let frame = places[i as usize];
-        if frame >= frames || bits::get(&row, frame as usize) {
+    if places.len() != frames.get() as usize || filled > frames.get() {
+        return None;
+    }
+    let mut row = [0; 32];
+    for frame in &places[..filled as usize] {
+        if *frame >= frames.get() || bits::get(&row, *frame as usize) {
             return None;
         }
-        bits::set(&mut row, frame as usize);
+        bits::set(&mut row, *frame as usize, true);
     }
     Some(row)
 }
 
 // Writes the frames of a block, rising, to the places from `from` on.
-fn append(places: &mut Vec<u16>, from: u16, block: FrameBlock)
-    requires { (from + 2 ^ block.block.order ≤ vec_len places.old) × (from ≤ 2048) }
-    ensures written { Appended places.old.items places.new.items from block.block.first (2 ^ block.block.order) }
-    ensures len { vec_len places.new ≡ vec_len places.old }
+fn append(places: &mut [u16], from: u16, block: FrameBlock)
+    requires { (from + 2 ^ block.block.order ≤ length places.old) × (from ≤ 2048) }
+    ensures { Appended places.old places.new from block.block.first (2 ^ block.block.order) }
 {
     let first = block.first().0;
-    for i in 0..block.count() {
-        places[(from + i) as usize] = first + i;
+    let to = from + block.count();
+    for (i, place) in places[from as usize..to as usize].iter_mut().enumerate() {
+        *place = first + i as u16;
+    }
+}
+
+// The places handed back.
+fn refuse(places: Vec<u16>) -> Refused<Vec<u16>, BadSource>
+    ensures { result.given ≡ places }
+{
+    Refused {
+        given: places,
+        refusal: BadSource,
     }
 }
 
@@ -78,29 +82,23 @@ impl BootList {
         frames: u16,
         places: Vec<u16>,
         filled: u16,
-    ) -> Result<AcceptedBootList, RefusedBootList>
-        ensures { MatchResult result (λ a. (a.list.frames ≡ frames) × (a.list.places ≡ places) × (a.list.filled ≡ filled)) (λ e. (e.places ≡ places) × (1 ≤ frames → frames ≤ 2048 → vec_len places ≡ frames → filled ≤ frames → Distinct places.items filled → AllBelow places.items filled frames → ⊥)) }
+    ) -> Result<AcceptedBootList, Refused<Vec<u16>, BadSource>>
+        ensures { MatchResult result (λ a. (a.list.frames.number ≡ frames) × (a.list.places ≡ places) × (a.list.filled ≡ filled)) (λ e. (e.given ≡ places) × (1 ≤ frames → frames ≤ 2048 → vec_len places ≡ frames → filled ≤ frames → Distinct places.items filled → AllBelow places.items filled frames → ⊥)) }
     {
-        if frames == 0 || frames > 2048 || places.len() != frames as usize || filled > frames {
-            return Err(RefusedBootList {
+        let Ok(count) = FrameCount::new(frames) else {
+            return Err(refuse(places));
+        };
+        let Some(free) = row_of(count, &places, filled) else {
+            return Err(refuse(places));
+        };
+        Ok(AcceptedBootList {
+            list: BootList {
+                frames: count,
                 places,
-                refusal: BadSource,
-            });
-        }
-        match row_of(places.as_slice(), filled, frames) {
-            None => Err(RefusedBootList {
-                places,
-                refusal: BadSource,
-            }),
-            Some(free) => Ok(AcceptedBootList {
-                list: BootList {
-                    frames,
-                    places,
-                    filled,
-                    free,
-                },
-            }),
-        }
+                filled,
+                free,
+            },
+        })
     }
 
     pub fn make(accepted: AcceptedBootList) -> BootList
@@ -125,19 +123,21 @@ impl BootList {
 }
 
 impl FrameSource for BootList {
-    ghost means = { λ s. plain s.frames (listed s.places.items s.filled) s.filled };
+    ghost use Rattle.frames.specs.Meanings.{listed_source};
+
+    ghost means = { listed_source };
 
     ghost lawful = { λ s.
         record {
-          some = s.some;
-          small = s.small;
-          within = λ f e. below_of s.places.items s.filled s.frames f s.below e;
-          counted = counted_by s.places.items (bit s.free) s.filled s.frames s.filled s.row s.counted;
+          some = s.frames.some;
+          small = s.frames.small;
+          within = λ f e. below_of s.places.items s.filled s.frames.number f s.below e;
+          counted = counted_by s.places.items (bit s.free) s.filled s.frames.number s.filled s.row s.counted;
           shallow = λ k. omega arith;
         } };
 
     fn frames(&self) -> u16 {
-        self.frames
+        self.frames.get()
     }
 
     fn available(&self) -> u16 {
@@ -145,7 +145,7 @@ impl FrameSource for BootList {
     }
 
     fn take(&mut self, order: u8) -> Result<FrameBlock, TakeError>
-        ensures takes { Takes (plain self.old.frames (listed self.old.places.items self.old.filled) self.old.filled) order (plain self.new.frames (listed self.new.places.items self.new.filled) self.new.filled) result }
+        ensures takes { Takes (listed_source self.old) order (listed_source self.new) result }
         ensures last { TakesLast self.old.places.items self.old.filled order self.new.filled (take_answer result) }
         ensures places { self.new.places ≡ self.old.places }
         ensures kept { KeptByTake self.old self.new result }
@@ -158,27 +158,23 @@ impl FrameSource for BootList {
         }
         let last = self.filled - 1;
         let frame = self.places[last as usize];
-        let block = block_at(0, frame);
-        bits::clear(&mut self.free, frame as usize);
+        let block = FrameBlock::from(Node {
+            order: 0,
+            index: frame,
+        });
+        bits::set(&mut self.free, frame as usize, false);
         self.filled = last;
         Ok(block)
     }
 
     fn give(&mut self, block: FrameBlock) -> Result<(), GiveError>
-        ensures gives { Gives (plain self.old.frames (listed self.old.places.items self.old.filled) self.old.filled) block (plain self.new.frames (listed self.new.places.items self.new.filled) self.new.filled) result }
+        ensures gives { Gives (listed_source self.old) block (listed_source self.new) result }
         ensures places { OnOk result (Appended self.old.places.items self.new.places.items self.old.filled block.block.first (2 ^ block.block.order)) }
         ensures kept { KeptByGive self.old self.new result }
     {
-        let first = block.first().0;
-        let end = block.end().0;
-        if end > self.frames {
-            return Err(GiveError::PastEnd);
-        }
-        if let Some(_) = bits::first_in(&self.free, first as usize, end as usize) {
-            return Err(GiveError::AlreadyFree);
-        }
+        self.frames.admits(&self.free, block)?;
         append(&mut self.places, self.filled, block);
-        bits::fill(&mut self.free, block.numbers());
+        bits::fill(&mut self.free, block.numbers(), true);
         self.filled += block.count();
         Ok(())
     }

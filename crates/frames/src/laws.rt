@@ -1,9 +1,9 @@
-ghost use Rattle.std.specs.Prelude.{◌≡◌, ℕ, ◌+◌, ◌^◌, ◌<◌, ◌≤◌, Bool, true, false, ◌&&◌, length, IfOk, Some, None, MatchResult};
+ghost use Rattle.std.specs.Prelude.{◌≡◌, ℕ, ◌+◌, ◌^◌, ◌<◌, ◌≤◌, Bool, true, false, ◌&&◌, length, IfOk, MatchOption, MatchResult};
 ghost use Rattle.blocks.specs.Bit.{bit};
 ghost use Rattle.frames.specs.Source.{Source, Lawful, tally, Took, Takes, Gives};
 ghost use Rattle.frames.specs.Laws.{SameFrames, free_count, FreeBlock, FreePair, Without};
 
-use crate::indexed::block_at;
+use crate::node::Node;
 use crate::refusal::{GiveError, TakeError};
 use crate::source::FrameSource;
 use blocks::bits;
@@ -37,10 +37,8 @@ pub fn take_and_give_back<S: FrameSource>(
     ensures free { IfOk result (λ b. (b.block.order ≡ order) × FreeBlock (S.FrameSource.means source.old) b) }
 {
     let block = take_counted(source, order)?;
-    match give_counted(source, block) {
-        Ok(()) => Ok(block),
-        Err(_) => unreachable(),
-    }
+    give_counted(source, block).unwrap();
+    Ok(block)
 }
 
 // Two blocks that have no frame in common, or the source as it was.
@@ -54,46 +52,47 @@ pub fn take_pair<S: FrameSource>(
     let first = take_counted(source, one)?;
     match take_counted(source, other) {
         Ok(second) => Ok((first, second)),
-        Err(e) => match give_counted(source, first) {
-            Ok(()) => Err(e),
-            Err(_) => unreachable(),
-        },
+        Err(e) => {
+            give_counted(source, first).unwrap();
+            Err(e)
+        }
     }
 }
 
 // A single frame, and none exactly where none is available.
 pub fn take_single<S: FrameSource>(source: &mut S) -> Option<FrameNumber>
-    ensures { elim result [ Some f ↦ (0 < (S.FrameSource.means source.old).avail) × Took (S.FrameSource.means source.old) 0 (S.FrameSource.means source.new) f.0 0 | None ↦ ((S.FrameSource.means source.old).avail ≡ 0) × (S.FrameSource.means source.new ≡ S.FrameSource.means source.old) ] }
+    ensures { MatchOption result (((S.FrameSource.means source.old).avail ≡ 0) × (S.FrameSource.means source.new ≡ S.FrameSource.means source.old)) (λ f. (0 < (S.FrameSource.means source.old).avail) × Took (S.FrameSource.means source.old) 0 (S.FrameSource.means source.new) f.0 0) }
 {
-    match source.take(0) {
-        Ok(block) => Some(block.first()),
-        Err(_) => None,
-    }
+    Some(source.take(0).ok()?.first())
 }
 
-// Takes single frames while there are any, and sets their bits.
-fn take_singles<S: FrameSource>(source: &mut S, taken: &mut [u64]) -> u16
-    requires { (length taken.old ≡ 32) × (((f : ℕ) → bit taken.old f ≡ false)) }
-    ensures without { Without (S.FrameSource.means source.old) (S.FrameSource.means source.new) (bit taken.new) }
+// Takes single frames while there are any: their row of bits, and how many they are.
+fn take_singles<S: FrameSource>(source: &mut S) -> ([u64; 32], u16)
+    ensures without { Without (S.FrameSource.means source.old) (S.FrameSource.means source.new) (bit result.0) }
     ensures dry { (S.FrameSource.means source.new).avail ≡ 0 }
-    ensures all { result ≡ (S.FrameSource.means source.old).avail }
-    ensures count { result ≡ tally (bit taken.new) (S.FrameSource.means source.old).total }
+    ensures all { result.1 ≡ (S.FrameSource.means source.old).avail }
+    ensures count { result.1 ≡ tally (bit result.0) (S.FrameSource.means source.old).total }
 {
+    let mut taken = [0; 32];
     let mut count: u16 = 0;
     while let Some(frame) = take_single(source) {
-        bits::set(taken, frame.0 as usize);
+        bits::set(&mut taken, frame.0 as usize, true);
         count += 1;
     }
-    count
+    (taken, count)
 }
 
 // Gives the frames back whose bits are set.
 fn give_singles<S: FrameSource>(source: &mut S, taken: &[u64])
     ensures { (s : Source) → Lawful s → Without s (S.FrameSource.means source.old) (bit taken.now) → ((S.FrameSource.means source.new).total ≡ s.total) × ((f : ℕ) → (S.FrameSource.means source.new).free f ≡ s.free f) × ((S.FrameSource.means source.new).avail ≡ (S.FrameSource.means source.old).avail + tally (bit taken.now) s.total) }
 {
-    for f in 0..source.frames() {
-        if bits::get(taken, f as usize) {
-            let _ = source.give(block_at(0, f));
+    for frame in 0..source.frames() {
+        if bits::get(taken, frame as usize) {
+            let block = Node {
+                order: 0,
+                index: frame,
+            };
+            let _ = source.give(block.into());
         }
     }
 }
@@ -103,8 +102,7 @@ pub fn count_by_taking<S: FrameSource>(source: &mut S) -> u16
     ensures all { result ≡ (S.FrameSource.means source.old).avail }
     ensures same { SameFrames (S.FrameSource.means source.old) (S.FrameSource.means source.new) }
 {
-    let mut taken = [0u64; 32];
-    let count = take_singles(source, &mut taken);
+    let (taken, count) = take_singles(source);
     give_singles(source, &taken);
     count
 }

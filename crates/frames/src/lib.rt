@@ -3,9 +3,10 @@
 
 pub mod boot_list;
 pub mod buddy;
-mod indexed;
+mod count;
 pub mod laws;
 mod marks;
+mod node;
 pub mod quota;
 pub mod refusal;
 pub mod source;

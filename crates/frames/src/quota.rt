@@ -1,13 +1,14 @@
 ghost use Rattle.std.specs.Prelude.{◌≡◌, ℕ, ◌+◌, ◌^◌, ◌<◌, ◌≤◌, min, MatchResult};
 ghost use Rattle.frames.specs.Refusals.{take_answer};
 ghost use Rattle.frames.specs.Source.{Takes, Gives};
-ghost use Rattle.frames.specs.Limited.{limited, passed_up, TakesThrough, GivesThrough, InBounds, Raised};
+ghost use Rattle.frames.specs.Limited.{limited, TakesThrough, GivesThrough, InBounds, Raised};
 ghost use Rattle.std.proofs.Common.{rules};
 
 use crate::refusal::{BadSource, GiveError, TakeError};
 use crate::source::FrameSource;
 use blocks::aligned::AlignedBlock;
 use blocks::block::FrameBlock;
+use blocks::refused::Refused;
 
 // A limit on how many frames may be taken from the source below.
 #[derive(Drop)]
@@ -16,7 +17,7 @@ pub struct Quota<S> {
     left: u16,
 }
 
-// What a quota may be made of.
+// What a quota may be made of. Each source is checked first and made after, so that its making cannot fail.
 #[derive(Drop)]
 pub struct AcceptedQuota<S> {
     below: S,
@@ -24,20 +25,13 @@ pub struct AcceptedQuota<S> {
     ghost small: { limit ≤ 2048 },
 }
 
-// The source below, handed back, and why no quota is made of it.
-#[derive(Drop)]
-pub struct RefusedQuota<S> {
-    pub below: S,
-    pub refusal: BadSource,
-}
-
 impl<S> Quota<S> {
-    pub fn check(limit: u16, below: S) -> Result<AcceptedQuota<S>, RefusedQuota<S>>
-        ensures { MatchResult result (λ a. (a.limit ≡ limit) × (a.below ≡ below)) (λ e. (e.below ≡ below) × (2048 < limit)) }
+    pub fn check(limit: u16, below: S) -> Result<AcceptedQuota<S>, Refused<S, BadSource>>
+        ensures { MatchResult result (λ a. (a.limit ≡ limit) × (a.below ≡ below)) (λ e. (e.given ≡ below) × (2048 < limit)) }
     {
         if limit > 2048 {
-            return Err(RefusedQuota {
-                below,
+            return Err(Refused {
+                given: below,
                 refusal: BadSource,
             });
         }
@@ -73,18 +67,6 @@ impl<S> Quota<S> {
     }
 }
 
-// The answer of the source below, one layer further up.
-fn passed_up(e: TakeError) -> TakeError
-    ensures { result ≡ passed_up e }
-{
-    match e {
-        TakeError::BadOrder => TakeError::BadOrder,
-        TakeError::NoBlock { depth } => TakeError::NoBlock {
-            depth: depth.saturating_add(1),
-        },
-    }
-}
-
 impl<S: FrameSource> FrameSource for Quota<S> {
     ghost means = { λ q. limited q.left (S.FrameSource.means q.below) };
 
@@ -95,8 +77,7 @@ impl<S: FrameSource> FrameSource for Quota<S> {
     }
 
     fn available(&self) -> u16 {
-        let below = self.below.available();
-        if self.left < below { self.left } else { below }
+        self.left.min(self.below.available())
     }
 
     fn take(&mut self, order: u8) -> Result<FrameBlock, TakeError>
@@ -112,13 +93,9 @@ impl<S: FrameSource> FrameSource for Quota<S> {
         if self.left < count {
             return Err(TakeError::NoBlock { depth: 0 });
         }
-        match self.below.take(order) {
-            Ok(block) => {
-                self.left -= count;
-                Ok(block)
-            }
-            Err(e) => Err(passed_up(e)),
-        }
+        let block = self.below.take(order).map_err(TakeError::passed_up)?;
+        self.left -= count;
+        Ok(block)
     }
 
     fn give(&mut self, block: FrameBlock) -> Result<(), GiveError>
@@ -126,14 +103,9 @@ impl<S: FrameSource> FrameSource for Quota<S> {
         ensures through { GivesThrough self.old.left (S.FrameSource.means self.old.below) block self.new.left (S.FrameSource.means self.new.below) result }
         ensures bounds { InBounds self.old.left (S.FrameSource.means self.old.below) → InBounds self.new.left (S.FrameSource.means self.new.below) × Raised self.old.left block self.new.left result }
     {
-        let count = block.count();
-        match self.below.give(block) {
-            Ok(()) => {
-                // It does not saturate: no more than 2,048 frames can come back beyond those that were taken.
-                self.left = self.left.saturating_add(count);
-                Ok(())
-            }
-            Err(e) => Err(e),
-        }
+        self.below.give(block)?;
+        // It does not saturate: no more than 2,048 frames can come back beyond those that were taken.
+        self.left = self.left.saturating_add(block.count());
+        Ok(())
     }
 }

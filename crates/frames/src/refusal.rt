@@ -1,4 +1,5 @@
 ghost use Rattle.std.specs.Prelude.{◌≡◌};
+ghost use Rattle.frames.specs.Limited.{passed_up};
 ghost use Rattle.frames.specs.Refusals.{take_number, give_number, bad_source_number};
 
 // Why a take gave no block.
@@ -11,13 +12,25 @@ pub enum TakeError {
 }
 
 impl TakeError {
-    // The refusal's number. None is an answer and no refusal, so it has none.
+    // The refusal's number. None is an answer and no refusal, so it has none. A method of each error: see `BadBlock`.
     pub fn number(self) -> Option<u8>
         ensures { result ≡ take_number self }
     {
         match self {
             TakeError::BadOrder => Some(12),
             TakeError::NoBlock { depth: _ } => None,
+        }
+    }
+
+    // The same answer, one layer further up.
+    pub(crate) fn passed_up(self) -> TakeError
+        ensures { result ≡ passed_up self }
+    {
+        match self {
+            TakeError::BadOrder => TakeError::BadOrder,
+            TakeError::NoBlock { depth } => TakeError::NoBlock {
+                depth: depth.saturating_add(1),
+            },
         }
     }
 }
@@ -32,6 +45,7 @@ pub enum GiveError {
 }
 
 impl GiveError {
+    // A method of each error: see `BadBlock`.
     pub fn number(self) -> u8
         ensures { result ≡ give_number self }
     {
@@ -47,6 +61,7 @@ impl GiveError {
 pub struct BadSource;
 
 impl BadSource {
+    // A method of each error: see `BadBlock`.
     pub fn number(self) -> u8
         ensures { result ≡ bad_source_number }
     {

@@ -1,30 +1,40 @@
-use Rattle.std.proofs.Common.{◌≡◌, ℕ, ◌+◌, ◌<◌, true, false, get_or, sym, refl, ap, ◌∙◌, arith}
+use Rattle.std.proofs.Common.{◌≡◌, ℕ, ◌+◌, ◌/◌, ◌<◌, true, false, length, get_or, replicate, take, sym, ap, ◌∙◌, arith}
+use Rattle.std.proofs.lemmas.Bool.{lt-ltb}
+use Rattle.std.proofs.lemmas.List.{get_or-take, length-take-le}
 use Rattle.blocks.specs.Bit.{bit}
 use Rattle.blocks.proofs.Digits.{none}
-use Rattle.frames.proofs.Sets.{tally_none}
 use Rattle.frames.specs.Lists.{row_more, distinct_more, below_more, tally_more}
+use Rattle.frames.proofs.Sets.{tally_none}
 use Rattle.frames.proofs.boot_list.row_of.Goals as goal
 
-pub loop-i-init : goal.loop-i-init
-loop-i-init c = (
-  refl,
-  λ f. none 32 f,
-  λ i l. absurd (omega arith),
-  λ i l. absurd (omega arith),
-  sym (tally_none _ c.args.frames (λ f l. none 32 f)),
-)
+pub loop-frame-init : goal.loop-frame-init
+loop-frame-init c =
+    record {
+      row = λ f. none 32 f;
+      distinct = λ i l. absurd (omega arith);
+      below = λ i l. absurd (omega arith);
+      count = sym (tally_none (bit (replicate 32 0)) c.args.frames.number (λ f l. none 32 f));
+    }
 
-pub loop-i-preserved : goal.loop-i-preserved
-loop-i-preserved c =
-    let i = c.loop-i.invariant in
+pub loop-frame-preserved : goal.loop-frame-preserved
+loop-frame-preserved c =
+    let i = c.loop-frame.invariant in
+    let n : ℕ = c.args.frames.number in
+    let k = c.loop-frame.frame-index in
     let xs = c.args.places.now in
-    let x : ℕ = get_or xs c.loop-i.i 0 in
-    let lt : x < c.args.frames = c.if-frame-frames.false in
-    let was : bit c.loop-i.row x ≡ false = sym c.if-get.ensures in
-    let is : bit c.set.new.words x ≡ true = c.set.ensures.here (omega arith) in (
-      c.set.auto.words ∙ i.0,
-      row_more xs (bit c.loop-i.row) (bit c.set.new.words) c.loop-i.i i.1 is c.set.ensures.others,
-      distinct_more xs c.loop-i.i i.2 (sym (i.1 x) ∙ was),
-      below_more xs c.loop-i.i c.args.frames i.3 lt,
-      ap (λ (n : ℕ). n + 1) i.4 ∙ sym (tally_more (bit c.loop-i.row) (bit c.set.new.words) x c.args.frames lt was is c.set.ensures.others),
-    )
+    let old = bit c.loop-frame.row in
+    let new = bit c.set.new.words in
+    let part : length (take c.args.filled xs) ≡ c.args.filled = length-take-le c.args.filled xs (omega arith) in
+    let y : ℕ = get_or xs k 0 in
+    let x : ℕ = get_or (take c.args.filled xs) k 0 in
+    let e : y ≡ x = sym (get_or-take c.args.filled xs k 0 (omega (arith, part))) in
+    let lt : y < n = omega (arith, e) in
+    let was : old y ≡ false = ap old e ∙ sym c.if-get.ensures in
+    let is : new y ≡ true = ap new e ∙ c.set.ensures.here ∙ lt-ltb (x / 64) (length c.loop-frame.row) (omega (arith, c.if-get.array_long, c.args.frames.small, lt, e)) in
+    let others : (f : ℕ) → (f ≡ y → ⊥) → new f ≡ old f = λ f o. c.set.ensures.others f (λ d. o (d ∙ sym e)) in
+    record {
+      row = row_more xs old new k i.row is others;
+      distinct = distinct_more xs k i.distinct (sym (i.row y) ∙ was);
+      below = below_more xs k n i.below lt;
+      count = ap (λ m. m + 1) i.count ∙ sym (tally_more old new y n lt was is others);
+    }

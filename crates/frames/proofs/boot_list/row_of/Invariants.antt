@@ -1,10 +1,14 @@
-use Rattle.std.proofs.Common.{◌≡◌, ℕ, length}
+use Rattle.std.proofs.Common.{◌≡◌, ℕ}
 use Rattle.blocks.specs.Bit.{bit}
 use Rattle.frames.specs.Source.{tally}
 use Rattle.frames.specs.Listed.{listed, Distinct, AllBelow}
 use Rattle.frames.proofs.boot_list.row_of.Given as goal
 
-abbrev pub invariant-loop-i : goal.invariant-loop-i
-invariant-loop-i l =
-    (length l.row ≡ 32) × ((f : ℕ) → bit l.row f ≡ listed l.places l.i f) × Distinct l.places l.i
-    × AllBelow l.places l.i l.frames × (l.i ≡ tally (bit l.row) l.frames)
+abbrev pub invariant-loop-frame : goal.invariant-loop-frame
+invariant-loop-frame l =
+    record {
+      row : (f : ℕ) → bit l.row f ≡ listed l.places l.frame-index f;
+      distinct : Distinct l.places l.frame-index;
+      below : AllBelow l.places l.frame-index l.frames.number;
+      count : l.frame-index ≡ tally (bit l.row) l.frames.number;
+    }

@@ -7,18 +7,12 @@ use Rattle.frames.proofs.boot_list.BootListFrameSource.take.Goals as goal
 
 -- what the last filled place holds
 last : (s : BootList) (x : ℕ) → (s.filled ≡ 0 → ⊥) → x ≡ get_or (vec_items s.places) (s.filled - 1) x
-    → (x ≡ get_or (vec_items s.places) (s.filled - 1) 0) × (x < s.frames) × (bit s.free x ≡ true)
+    → (x ≡ get_or (vec_items s.places) (s.filled - 1) 0) × (x < s.frames.number) × (bit s.free x ≡ true)
 last s x z e =
     let n : vec_len s.places ≡ length (vec_items s.places) = s.places.ok.0 in
     let y = get_or_read (vec_items s.places) (s.filled - 1) x (omega (arith, n, s.room, s.fits)) e 0 in
     let h = s.below (s.filled - 1) (omega arith) in
     (y, omega (arith, y, h), s.row x ∙ listed_at (vec_items s.places) s.filled (s.filled - 1) x (omega arith) (sym y))
-
-pub block_at-block-requires : goal.block_at-block-requires
-block_at-block-requires c =
-    let s = c.args.self.now in
-    let l = last s c.index-frame.result.now c.if-self-eq0.false c.index-frame.ensures in
-    (omega arith, omega (arith, l.1, s.small))
 
 pub invariant_of-self : goal.invariant_of-self
 invariant_of-self c =
@@ -27,18 +21,15 @@ invariant_of-self c =
     let x : ℕ = c.index-frame.result.now in
     let l = last s x c.if-self-eq0.false c.index-frame.ensures in
     let b = bit s.free in
-    let b' = bit c.clear.new.words in
+    let b' = bit c.set.new.words in
     let z : 0 < s.filled = omega (arith, c.if-self-eq0.false) in
-    let t = tally_more b' b x s.frames l.1 c.clear.ensures.here l.2 (λ f o. sym (c.clear.ensures.others f o)) in record {
-      some = s.some;
-      small = s.small;
+    let t = tally_more b' b x s.frames.number l.1 c.set.ensures.here l.2 (λ f o. sym (c.set.ensures.others f o)) in record {
       room = s.room;
       fits = omega (arith, s.fits);
-      long = c.clear.auto.words ∙ s.long;
       below = λ i v. s.below i (omega arith);
       distinct = λ i v. s.distinct i (omega arith);
-      row = row_less xs b b' s.filled z s.distinct s.row (subst (λ (y : ℕ). b' y ≡ false) l.0 c.clear.ensures.here)
-          (subst (λ (y : ℕ). (f : ℕ) → (f ≡ y → ⊥) → b' f ≡ b f) l.0 c.clear.ensures.others);
+      row = row_less xs b b' s.filled z s.distinct s.row (subst (λ (y : ℕ). b' y ≡ false) l.0 c.set.ensures.here)
+          (subst (λ (y : ℕ). (f : ℕ) → (f ≡ y → ⊥) → b' f ≡ b f) l.0 c.set.ensures.others);
       counted = omega (arith, t, s.counted);
     }
 
@@ -49,13 +40,13 @@ returns c =
     let z : 0 < s.filled = omega (arith, c.if-self-eq0.false) in
     let k : c.args.order ≡ 0 = omega (arith, c.if-order-gt0.false) in
     let p : 2 ^ c.args.order ≡ 1 = ap (λ (x : ℕ). 2 ^ x) k in
-    let b : c.block_at-block.result.block.first ≡ c.index-frame.result.now = omega (arith, c.block_at-block.ensures.0) in
+    let b : c.from-block.result.block.first ≡ c.index-frame.result.now = omega (arith, c.from-block.ensures.0) in
     record {
       takes = record {
         small = omega (arith, k);
-        order = c.block_at-block.ensures.1 ∙ sym k;
+        order = c.from-block.ensures.1 ∙ sym k;
         total = refl;
-        free = last_joined (vec_items s.places) s.filled c.block_at-block.result.block.first _ z s.distinct (b ∙ l.0) (ap (λ (x : ℕ). c.block_at-block.result.block.first + x) p);
+        free = last_joined (vec_items s.places) s.filled c.from-block.result.block.first _ z s.distinct (b ∙ l.0) (ap (λ (x : ℕ). c.from-block.result.block.first + x) p);
         avail = omega (arith, p, z);
       };
       last = (k, omega (arith, z), b ∙ l.0);

@@ -1,44 +1,43 @@
-use Rattle.std.proofs.Common.{◌≡◌, ◌<◌, ◌≤◌, true, replicate, sym, refl, ap, ◌∙◌, ⊎_elim, arith}
-use Rattle.std.proofs.lemmas.Bool.{both_ways, cases_lt, cases_eq}
+use Rattle.std.proofs.Common.{◌≡◌, ◌/◌, ◌<◌, ◌≤◌, true, length, replicate, refl, ap, ◌∙◌, ⊎_elim, arith}
+use Rattle.std.proofs.lemmas.Bool.{both_ways, cases_lt, cases_eq, lt-ltb}
 use Rattle.blocks.specs.Bit.{bit}
 use Rattle.blocks.proofs.Digits.{none}
 use Rattle.frames.proofs.Sets.{whole_from, alone_from, full_from, one_more, tally_all, none_marked}
 use Rattle.frames.proofs.buddy.Buddy.make.Goals as goal
 
-pub loop-f-init : goal.loop-f-init
-loop-f-init c = (
-  refl,
-  refl,
-  λ k l. absurd (omega arith),
-  λ k l. none 32 k,
-  none_marked (bit (replicate 64 0)) (bit (replicate 32 0)) (none 64) (none 32),
-)
+pub loop-frame-init : goal.loop-frame-init
+loop-frame-init c =
+    record {
+      words = refl;
+      free = λ k l. absurd (omega arith);
+      rest = λ k l. none 32 k;
+      marked = none_marked (bit c.new-marks.result.row) (bit (replicate 32 0)) c.new-marks.ensures (none 32);
+    }
 
-pub loop-f-preserved : goal.loop-f-preserved
-loop-f-preserved c =
-    let i = c.loop-f.invariant in
-    let b : bit c.set.new.words c.loop-f.f ≡ true = c.set.ensures.here (omega arith) in (
-      c.set.auto.words ∙ i.0,
-      c.merge.auto.marks ∙ i.1,
-      λ k l. ⊎_elim (λ (e : k ≡ c.loop-f.f). ap (bit c.set.new.words) e ∙ b) (λ n. c.set.ensures.others k n ∙ i.2 k (omega arith)) (cases_eq k c.loop-f.f),
-      λ k l. c.set.ensures.others k (λ e. omega arith) ∙ i.3 k (omega arith),
-      c.merge.ensures (bit c.loop-f.free) (bit c.set.new.words) i.4
-          (one_more (bit c.loop-f.free) (bit c.set.new.words) c.loop-f.f i.2 i.3 b c.set.ensures.others),
-    )
+pub loop-frame-preserved : goal.loop-frame-preserved
+loop-frame-preserved c =
+    let i = c.loop-frame.invariant in
+    let n = c.loop-frame.frame in
+    let s = c.args.accepted.frames.small in
+    let old = bit c.loop-frame.free in
+    let new = bit c.set.new.words in
+    let b : new n ≡ true = c.set.ensures.here ∙ lt-ltb (n / 64) (length c.loop-frame.free) (omega (arith, i.words, s)) in
+    record {
+      words = c.set.auto.words ∙ i.words;
+      free = λ k l. ⊎_elim (λ (e : k ≡ n). ap new e ∙ b) (λ o. c.set.ensures.others k o ∙ i.free k (omega arith)) (cases_eq k n);
+      rest = λ k l. c.set.ensures.others k (λ e. omega arith) ∙ i.rest k (omega arith);
+      marked = c.merge.ensures old new i.marked (one_more old new n i.free i.rest b c.set.ensures.others);
+    }
 
 pub invariant_of-result : goal.invariant_of-result
 invariant_of-result c =
-    let i = c.loop-f.invariant in
-    let n = c.args.accepted.frames in
-    let m = bit c.loop-f.free in
-    let b = bit c.loop-f.marks in record {
-      some = c.args.accepted.some;
-      small = c.args.accepted.small;
-      long = i.0;
-      deep = i.1;
-      within = λ f t. ⊎_elim (λ (l : f < n). l) (λ (g : n ≤ f). absurd (both_ways (m f) (i.3 f (omega arith)) t)) (cases_lt f n);
-      counted = sym (tally_all m n (λ f l. i.2 f (omega arith)));
-      whole = whole_from b m i.4;
-      alone = alone_from b m i.4;
-      all = full_from b m i.4;
+    let i = c.loop-frame.invariant in
+    let n = c.args.accepted.frames.number in
+    let p = bit c.loop-frame.free in
+    let b = bit c.loop-frame.marks.row in record {
+      within = λ f t. ⊎_elim (λ (l : f < n). l) (λ (g : n ≤ f). absurd (both_ways (p f) (i.rest f (omega arith)) t)) (cases_lt f n);
+      counted = omega (arith, tally_all p n (λ f l. i.free f (omega arith)));
+      whole = whole_from b p i.marked;
+      alone = alone_from b p i.marked;
+      all = full_from b p i.marked;
     }

@@ -3,9 +3,11 @@ use Rattle.blocks.specs.Bit.{bit}
 use Rattle.frames.specs.Maximal.{Marked}
 use Rattle.frames.proofs.buddy.Buddy.make.Given as goal
 
-abbrev pub invariant-loop-f : goal.invariant-loop-f
-invariant-loop-f l =
-    (length l.free ≡ 32) × (length l.marks ≡ 64)
-    × ((k : ℕ) → k < l.f → bit l.free k ≡ true)
-    × ((k : ℕ) → l.f ≤ k → bit l.free k ≡ false)
-    × Marked (bit l.marks) (bit l.free)
+abbrev pub invariant-loop-frame : goal.invariant-loop-frame
+invariant-loop-frame l =
+    record {
+      words : length l.free ≡ 32;
+      free : (k : ℕ) → k < l.frame → bit l.free k ≡ true;
+      rest : (k : ℕ) → l.frame ≤ k → bit l.free k ≡ false;
+      marked : Marked (bit l.marks.row) (bit l.free);
+    }

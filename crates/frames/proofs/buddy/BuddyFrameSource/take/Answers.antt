@@ -1,39 +1,38 @@
-use Rattle.std.proofs.Common.{◌≡◌, ℕ, ◌+◌, ◌^◌, ◌<◌, true, refl, ap, ◌∙◌, subst, arith}
+use Rattle.std.proofs.Common.{◌≡◌, ℕ, ◌+◌, ◌*◌, ◌^◌, ◌<◌, true, refl, ap, ◌∙◌, subst, arith}
 use Rattle.blocks.specs.Bit.{bit}
 use Rattle.blocks.specs.declared.aligned.AlignedBlock.{AlignedBlock}
 use Rattle.frames.specs.Source.{tally, Joined}
 use Rattle.frames.specs.Maximal.{Marked}
-use Rattle.frames.proofs.Sets.{take_all, marked_from, whole_from, alone_from, full_from, dry, cut_room, unmarked, take_lowest}
+use Rattle.frames.proofs.Sets.{take_all, marked_from, whole_from, alone_from, full_from, dry, unmarked, take_lowest}
 use Rattle.frames.proofs.buddy.BuddyFrameSource.take.Goals as goal
 use Rattle.frames.proofs.buddy.BuddyFrameSource.take.Goals.{After-count}
 
-pub block_at-block-requires : goal.block_at-block-requires
-block_at-block-requires c =
-    let x = c.in-Some.ensures in (
-      omega arith,
-      cut_room c.in-Some.found.order c.in-Some.found.index c.args.order c.split-index.result x.0 x.1 x.2 c.split-index.ensures.place,
-    )
-
 took : (c : goal.After-count) →
-    Joined (bit c.wipe.new.words) (bit c.args.self.now.free) c.block_at-block.result.block.first (c.block_at-block.result.block.first + 2 ^ c.args.order)
-    × Marked (bit c.split-index.new.marks) (bit c.wipe.new.words)
-    × (tally (bit c.args.self.now.free) c.args.self.now.frames ≡ tally (bit c.wipe.new.words) c.args.self.now.frames + 2 ^ c.args.order)
-    × ((f : ℕ) → bit c.wipe.new.words f ≡ true → f < c.args.self.now.frames)
+    let b = c.from-block.result.block.first in
+    Joined (bit c.fill.new.words) (bit c.args.self.now.free) b (b + 2 ^ c.args.order)
+    × Marked (bit c.split.new.self.row) (bit c.fill.new.words)
+    × (tally (bit c.args.self.now.free) c.args.self.now.frames.number ≡ tally (bit c.fill.new.words) c.args.self.now.frames.number + 2 ^ c.args.order)
+    × ((f : ℕ) → bit c.fill.new.words f ≡ true → f < c.args.self.now.frames.number)
 took c =
     let s = c.args.self.now in
+    let n = c.in-Some.found in
     let x = c.in-Some.ensures in
-    let n : c.numbers.result.first ≡ c.block_at-block.result.block.first = ap (λ (b : AlignedBlock). b.first) c.numbers.ensures in
-    let o : c.numbers.result.order ≡ c.block_at-block.result.block.order = ap (λ (b : AlignedBlock). b.order) c.numbers.ensures in
-    let t = take_all (bit s.marks) (bit c.clear.new.words) (bit c.split-index.new.marks) (bit s.free) (bit c.wipe.new.words)
-    c.in-Some.found.order c.in-Some.found.index c.args.order c.split-index.result c.place.result c.numbers.result.first c.numbers.result.order s.frames
-    x.0 x.1 x.2 c.split-index.ensures.place
-    (marked_from (bit s.marks) (bit s.free) s.whole s.alone s.all) s.within
-    c.place.ensures.0 (ap (bit s.marks) c.place.ensures.0 ∙ x.3) c.clear.ensures.here c.clear.ensures.others c.split-index.ensures.marked
-    (n ∙ c.block_at-block.ensures.0) (o ∙ c.block_at-block.ensures.1) c.wipe.ensures.here c.wipe.ensures.below c.wipe.ensures.above in
-    (subst (λ (b : ℕ). Joined (bit c.wipe.new.words) (bit s.free) b (b + 2 ^ c.args.order)) n t.0, t.1, t.2, t.3)
+    let r = c.split.ensures.place in
+    let k : ℕ = c.args.order in
+    let b = c.from-block.ensures in
+    let first : c.numbers.result.first ≡ c.from-block.result.block.first = ap (λ (y : AlignedBlock). y.first) c.numbers.ensures in
+    let order : c.numbers.result.order ≡ c.from-block.result.block.order = ap (λ (y : AlignedBlock). y.order) c.numbers.ensures in
+    let p = ap (λ (y : ℕ). c.split.result.index * 2 ^ y) r.0 in
+    let t = take_all (bit s.marks.row) (bit c.set.new.self.row) (bit c.split.new.self.row) (bit s.free) (bit c.fill.new.words)
+    n.order n.index k c.split.result.index c.numbers.result.first c.numbers.result.order s.frames.number
+    x.0 n.small n.room r.1
+    (marked_from (bit s.marks.row) (bit s.free) s.whole s.alone s.all) s.within
+    x.1 c.set.ensures.here c.set.ensures.others c.split.ensures.marked
+    (first ∙ b.0 ∙ p) (order ∙ b.1 ∙ r.0) c.fill.ensures.here c.fill.ensures.below c.fill.ensures.above in
+    (subst (λ (y : ℕ). Joined (bit c.fill.new.words) (bit s.free) y (y + 2 ^ k)) first t.0, t.1, t.2, t.3)
 
 size : (c : goal.After-count) → c.count.result ≡ 2 ^ c.args.order
-size c = c.count.ensures ∙ ap (λ (x : ℕ). 2 ^ x) c.block_at-block.ensures.1
+size c = c.count.ensures ∙ ap (λ (x : ℕ). 2 ^ x) (c.from-block.ensures.1 ∙ c.split.ensures.place.0)
 
 pub overflow_sub-self : goal.overflow_sub-self
 overflow_sub-self c = let t = (took c).2 in let z = size c in let k = c.args.self.now.counted in omega (arith, t, z, k)
@@ -43,12 +42,8 @@ invariant_of-self c =
     let s = c.args.self.now in
     let t = took c in
     let z = size c in
-    let m = bit c.split-index.new.marks in
-    let f = bit c.wipe.new.words in record {
-      some = s.some;
-      small = s.small;
-      long = c.wipe.auto.words ∙ s.long;
-      deep = c.split-index.auto.marks ∙ c.clear.auto.words ∙ s.deep;
+    let m = bit c.split.new.self.row in
+    let f = bit c.fill.new.words in record {
       within = t.3;
       counted = omega (arith, s.counted, t.2, z);
       whole = whole_from m f t.1;
@@ -56,32 +51,34 @@ invariant_of-self c =
       all = full_from m f t.1;
     }
 
-pub returns-in-None : goal.returns-in-None
-returns-in-None c =
+pub returns-in_default : goal.returns-in_default
+returns-in_default c =
     let s = c.args.self.now in
-    let h = marked_from (bit s.marks) (bit s.free) s.whole s.alone s.all in
+    let h = marked_from (bit s.marks.row) (bit s.free) s.whole s.alone s.all in
     record {
       takes = record {
         small = omega arith;
         same = refl;
         depth = refl;
-        dry = λ e. s.counted ∙ dry (bit s.marks) (bit s.free) s.frames s.small h (λ j i z l r. c.in-None.ensures j i (omega arith) l r);
+        dry = λ e. s.counted ∙ dry (bit s.marks.row) (bit s.free) s.frames.number s.frames.small h (λ j i z l r. c.in_default.ensures j i (omega arith) l r);
       };
-      chooses = (refl, λ j i a b x. unmarked (bit s.marks) (bit s.free) j i s.frames s.small s.within h b (λ r. c.in-None.ensures j i a b r) x);
+      chooses = (refl, λ j i a b x. unmarked (bit s.marks.row) (bit s.free) j i s.frames.number s.frames.small s.within h b (λ r. c.in_default.ensures j i a b r) x);
       kept = refl;
     }
 
-pub returns-in-Some : goal.returns-in-Some
-returns-in-Some c =
+pub returns : goal.returns
+returns c =
     let s = c.args.self.now in
+    let n = c.in-Some.found in
     let x = c.in-Some.ensures in
-    let a = (goal.at.returns-in-Some c).After-count in
+    let r = c.split.ensures.place in
+    let b = c.from-block.ensures in
+    let a = (goal.at.returns c).After-count in
     let t = took a in
-    let z = size a in
     record {
-      takes = record { small = omega arith; order = c.block_at-block.ensures.1; total = refl; free = t.0; avail = omega (arith, s.counted, t.2, z) };
-      chooses = take_lowest (bit s.marks) (bit s.free) c.in-Some.found.order c.in-Some.found.index c.args.order c.split-index.result c.block_at-block.result.block.first s.frames
-          s.small s.within (marked_from (bit s.marks) (bit s.free) s.whole s.alone s.all)
-          x.0 x.1 x.2 x.3 x.4 x.5 c.split-index.ensures.place c.block_at-block.ensures.0;
+      takes = record { small = omega arith; order = b.1 ∙ r.0; total = refl; free = t.0; avail = omega (arith, s.counted, t.2, size a) };
+      chooses = take_lowest (bit s.marks.row) (bit s.free) n.order n.index c.args.order c.split.result.index c.from-block.result.block.first s.frames.number
+          s.frames.small s.within (marked_from (bit s.marks.row) (bit s.free) s.whole s.alone s.all)
+          x.0 n.small n.room x.1 x.2 x.3 r.1 (b.0 ∙ ap (λ (y : ℕ). c.split.result.index * 2 ^ y) r.0);
       kept = tt;
     }

@@ -1,32 +1,21 @@
-use Rattle.std.proofs.Common.{◌≡◌, ℕ, ◌+◌, ◌-◌, ◌*◌, ◌/◌, ◌%◌, ◌^◌, ◌<◌, ◌≤◌, Bool, true, false, cond, ◌&&◌, eqb, ltb, List, length, get_or, Some, None, Option, sym, refl, ap, ◌∙◌, subst, inl, inr, arith}
+use Rattle.std.proofs.Common.{◌≡◌, ℕ, ◌+◌, ◌-◌, ◌*◌, ◌/◌, ◌%◌, ◌^◌, ◌<◌, ◌≤◌, cond, ◌&&◌, eqb, ltb, List, get_or, Some, None, Option, sym, ap, ◌∙◌, subst, inl, inr, arith}
 use native.Mathlib.Nat.{mul-mod_left}
 use Rattle.std.proofs.lemmas.Nat.{pow_pos}
-use Rattle.std.proofs.lemmas.Bool.{cases_eq, cases_lt}
+use Rattle.std.proofs.lemmas.Bool.{cases_lt}
 use Rattle.mapping.specs.declared.leaf.Leaf.{Leaf}
-use Rattle.mapping.specs.Leaves.{OneOf, Filled, Fit, Cleared, PutOk, Reaches, lay}
+use Rattle.mapping.specs.Leaves.{Filled, Fit, Cleared, PutOk, Reaches, lay}
 use Rattle.mapping.specs.AlphaFormat.{order_in, fault_in, alpha_word, frame_in, alpha_leaf, alpha_at, alpha_sizes}
-use Rattle.mapping.specs.AlphaWords.{Order, hinted, word_order, word_fault, word_first, word_some, neighbour_zero}
+use Rattle.mapping.specs.AlphaWords.{Order, hinted, neighbour_zero}
 use Rattle.mapping.specs.Aligned.{in_block, of_block, distance, start}
 use Rattle.mapping.specs.AlphaTables.{Sound, Outside, sound_put, sound_clear}
-use Rattle.mapping.specs.AlphaLeaves.{by_order, at_in, at_object, at_page, leaf_is, leaf_none, leaf_at, alpha_lawful, fits_object, common, same_rest}
+use Rattle.mapping.specs.AlphaLeaves.{fault_small, order_of, read_back, by_order, at_in, at_object, at_page, leaf_is, leaf_none, leaf_at, alpha_lawful, fits_object, common, same_rest}
+use Rattle.mapping.proofs.Rewritten.{Written}
 use Rattle.mapping.specs.Reaching.{unhindered, reaches}
 
--- count places from s on were written
-pub record Written (xs ys : List ℕ) (s count low step : ℕ) : Type 0 where
-  pub inside : (d : ℕ) → d < count → get_or ys (s + d) 0 ≡ low + d * step
-  pub lower : (j : ℕ) → j < s → get_or ys j 0 ≡ get_or xs j 0
-  pub upper : (j : ℕ) → s + count ≤ j → get_or ys j 0 ≡ get_or xs j 0
-
-pub written : (xs ys : List ℕ) (s z n count e low step : ℕ) → s ≡ z → n ≡ count → e ≡ low
-    → ((d : ℕ) → d < n → get_or ys (s + d) 0 ≡ e + d * step)
-    → ((j : ℕ) → j < s → get_or ys j 0 ≡ get_or xs j 0)
-    → ((j : ℕ) → s + n ≤ j → get_or ys j 0 ≡ get_or xs j 0)
-    → Written xs ys z count low step
-written xs ys s z n count e low step p q r inside lower upper =
-    subst (λ z. Written xs ys z count low step) p
-    (subst (λ n. Written xs ys s n low step) q
-    (subst (λ e. Written xs ys s n e step) r
-    (record { inside = inside; lower = lower; upper = upper })))
+-- the same at the places and values that the code computed
+pub written : {xs ys : List ℕ} {s n e step : ℕ} (z count low : ℕ) → s ≡ z → n ≡ count → e ≡ low → Written xs ys s n e step → Written xs ys z count low step
+written {xs} {ys} {s} {n} {e} {step} z count low p q r w =
+    subst (λ z. Written xs ys z count low step) p (subst (λ n. Written xs ys s n low step) q (subst (λ e. Written xs ys s n e step) r w))
 
 pub outside : {xs ys : List ℕ} {s low step : ℕ} (k : ℕ) → Written xs ys s (2 ^ k) low step → s % 2 ^ k ≡ 0
     → Outside (λ i. get_or xs i 0) (λ i. get_or ys i 0) (s / 2 ^ k) k
@@ -67,7 +56,7 @@ filled {xs} {ys} o l x a b w each =
           | inr h ↦ at_page ys c p h ∙ sym (at_page xs c p h)
           | inl h ↦ elim (cases_lt c o) [
             | inl m ↦ same c p (w.lower (c * 1024 + p) (omega arith))
-            | inr m ↦ let q : o < c = strict c o m n in same c p (w.upper (c * 1024 + p) (omega arith))
+            | inr m ↦ let q : o < c = omega arith in same c p (w.upper (c * 1024 + p) (omega arith))
           ]
         ];
       };
@@ -76,8 +65,13 @@ filled {xs} {ys} o l x a b w each =
     same : (o p : ℕ) → get_or ys (o * 1024 + p) 0 ≡ get_or xs (o * 1024 + p) 0 → alpha_at ys o p ≡ alpha_at xs o p
     same o p e = ap (λ v. cond (ltb o 4 && ltb p 1024) (alpha_leaf p v) None) e
 
-    strict : (c o : ℕ) → o ≤ c → (c ≡ o → ⊥) → o < c
-    strict c o m n = elim (cases_eq c o) [ inl e ↦ absurd (n e) | inr e ↦ omega (arith, lib.Arith.lt_of_le-ne {i = o} {k = c} m (λ z. n (sym z))) ]
+-- a leaf that fits starts within the table
+pub starts : (o : ℕ) (l : Leaf) → Fit alpha_sizes o l → o * 1024 + l.first.0 < 4096
+starts o l fit = let a = fit.object in let w = fit.within in let p = pow_pos l.order in omega arith
+
+-- and a leaf ends within it
+pub ends : (o p k s n : ℕ) → o < 4 → p < 1024 → Order k → s ≡ o * 1024 + p / 2 ^ k * 2 ^ k → n ≡ 2 ^ k → s + n ≤ 4096
+ends o p k s n a b r at is = omega (arith, fits_object k p r b)
 
 pub aligned : (k o f : ℕ) → Order k → f % 2 ^ k ≡ 0 → (o * 1024 + f) % 2 ^ k ≡ 0
 aligned k o f r e = same_rest k o f r ∙ e
@@ -115,47 +109,6 @@ module _ (xs ys : List ℕ) (o p : ℕ) (sound : Sound (λ i. get_or xs i 0)) (a
           let s : ℕ = o * 1024 + p / 2 ^ k * 2 ^ k in
           let t : s % 2 ^ k ≡ 0 = aligned k o _ order al in
           leaf_none q _ (within k w t (o * 1024 + q) (in_block k s (o * 1024 + q) t (omega arith) (omega arith)) ∙ (omega arith))
-
-fault_small : (v : Bool) → cond v 0 1 < 2
-fault_small true = omega arith
-fault_small false = omega arith
-
-fault_back : (v : Bool) → eqb (cond v 0 1) 0 ≡ v
-fault_back true = refl
-fault_back false = refl
-
--- an entry made from a leaf tells that leaf
-pub read_back : (l : Leaf) (p j : ℕ) → Order l.order → l.first.0 % 2 ^ l.order ≡ 0 → l.frame.0 % 2 ^ l.order ≡ 0
-    → l.first.0 ≤ p → p < l.first.0 + 2 ^ l.order
-    → alpha_leaf p (alpha_word (l.frame.0 + j % 2 ^ l.order) l.order (cond l.writable 0 1)) ≡ Some l
-read_back l p j r even straight from below =
-    let k : ℕ = l.order in
-    let h : ℕ = cond l.writable 0 1 in
-    let bit : h < 2 = fault_small l.writable in
-    let f : ℕ = l.frame.0 + j % 2 ^ k in
-    let c : p / 2 ^ k * 2 ^ k ≡ l.first.0 = ap (λ z. z * 2 ^ k) (in_block k l.first.0 p even from below) ∙ start k l.first.0 even in
-    leaf_is p (alpha_word f k h) (word_some f k h)
-    ∙ ap (λ z. Some (lay (p / 2 ^ z * 2 ^ z) z (frame_in (alpha_word f k h)) (eqb (fault_in (alpha_word f k h)) 0))) (word_order f k h r bit)
-    ∙ ap (λ z. Some (lay z k (frame_in (alpha_word f k h)) (eqb (fault_in (alpha_word f k h)) 0))) c
-    ∙ ap (λ z. Some (lay l.first.0 k z (eqb (fault_in (alpha_word f k h)) 0))) (word_first l.frame.0 j k h r bit straight)
-    ∙ ap (λ z. Some (lay l.first.0 k l.frame.0 (eqb z 0))) (word_fault f k h r bit)
-    ∙ ap (λ z. Some (lay l.first.0 k l.frame.0 z)) (fault_back l.writable)
-
--- a size of Alpha's
-pub order_of : (k : ℕ) → OneOf alpha_sizes k → Order k
-order_of k s =
-    let t = s.there in
-    let e = s.is in
-    elim (cases_eq s.place 0) [
-      | inl z ↦ record { part = 3; few = omega arith; is = sym e ∙ ap (λ i. get_or alpha_sizes i 0) z }
-      | inr y ↦ elim (cases_eq s.place 1) [
-        | inl z ↦ record { part = 2; few = omega arith; is = sym e ∙ ap (λ i. get_or alpha_sizes i 0) z }
-        | inr x ↦ elim (cases_eq s.place 2) [
-          | inl z ↦ record { part = 1; few = omega arith; is = sym e ∙ ap (λ i. get_or alpha_sizes i 0) z }
-          | inr v ↦ let z : s.place ≡ 3 = omega arith in record { part = 0; few = omega arith; is = sym e ∙ ap (λ i. get_or alpha_sizes i 0) z }
-        ]
-      ]
-    ]
 
 -- put
 module _ (xs ys : List ℕ) (o : ℕ) (l : Leaf) (sound : Sound (λ i. get_or xs i 0)) (fit : Fit alpha_sizes o l) (even : l.first.0 % 2 ^ l.order ≡ 0)
@@ -227,11 +180,4 @@ blank_none xs z o p =
     elim (cases_lt o 4) [
       | inr g ↦ at_object xs o p g
       | inl a ↦ elim (cases_lt p 1024) [ inr g ↦ at_page xs o p g | inl b ↦ at_in xs o p a b ∙ leaf_none p _ (z _) ]
-    ]
-
-pub all_zero : (ys : List ℕ) (n : ℕ) → n ≡ length ys → ((d : ℕ) → d < n → get_or ys (0 + d) 0 ≡ 0 + d * 0) → (i : ℕ) → get_or ys i 0 ≡ 0
-all_zero ys n e z i =
-    elim (cases_lt i n) [
-      | inl h ↦ let q : 0 + i ≡ i = omega arith in subst (λ x. get_or ys x 0 ≡ 0) q (z i h ∙ (omega arith))
-      | inr h ↦ Rattle.std.proofs.lemmas.List.get_or_past ys i 0 (omega arith)
     ]

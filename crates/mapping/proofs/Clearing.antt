@@ -1,10 +1,10 @@
-use Rattle.std.proofs.Common.{◌≡◌, ℕ, ◌+◌, ◌*◌, ◌%◌, ◌^◌, ◌<◌, ◌≤◌, List, Some, None, Ok, Err, Option, Result, sym, refl, ap, ◌∙◌, subst, inl, inr, arith}
-use Rattle.std.proofs.lemmas.Nat.{one_shl, pow_pos}
+use Rattle.std.proofs.Common.{◌≡◌, ℕ, ◌+◌, ◌^◌, ◌<◌, ◌≤◌, List, Some, None, Ok, Err, Option, Result, sym, refl, ap, ◌∙◌, subst, inl, inr, arith}
+use Rattle.std.proofs.lemmas.Nat.{pow_pos}
 use Rattle.std.proofs.lemmas.Bool.{cases_lt, cases_eq}
 use Rattle.mapping.specs.Told.{none_some, some_is}
 use Rattle.mapping.specs.declared.leaf.Leaf.{Leaf}
 use Rattle.mapping.specs.declared.leaf.NoLeaf.{NoLeaf}
-use Rattle.mapping.specs.Leaves.{Leaves, Lawful, AllLawful, Falling, Filled, PutOk, Clear, LieApart, Undone}
+use Rattle.mapping.specs.Leaves.{Leaves, Lawful, AllLawful, Filled, PutOk, Clear, LieApart, Undone}
 
 -- a clear of a page whose leaf is known removes that leaf
 pub gone : (before after : Leaves) (o p : ℕ) (l : Leaf) → before o p ≡ Some l → (r : Result ℕ NoLeaf) → Clear before after o p r → Filled before after o l None
@@ -18,16 +18,6 @@ past sizes at o law p h = go (at o p) refl
     go : (x : Option Leaf) → at o p ≡ x → at o p ≡ None
     go None e = e
     go (Some l) e = let w = law p l e in absurd (omega (arith, w.below, w.within))
-
-module _ (sizes : List ℕ) (falling : Falling sizes) (at : Leaves) (o p : ℕ) (l : Leaf) (law : Lawful sizes at o p l) where
-  pub low_order : l.order ≤ 9
-  low_order = omega (arith, falling.top law.sized.place, law.sized.is)
-
-  pub count : (1 * 2 ^ l.order) % 65536 ≡ 2 ^ l.order
-  count = let h = low_order in one_shl l.order 16 (omega arith)
-
-  pub first_has : at o l.first.0 ≡ Some l
-  first_has = let h = pow_pos l.order in law.same l.first.0 (omega arith) (omega arith)
 
 -- a put, and the clear of the leaf that it laid
 pub undone : (sizes : List ℕ) (before mid after : Leaves) (o p : ℕ) (l : Leaf) → p ≡ l.first.0 → PutOk sizes before mid o l

@@ -1,4 +1,5 @@
-use Rattle.std.proofs.Common.{◌≡◌, ℕ, zero, suc, ◌+◌, ◌<◌, ◌≤◌, cond, eqb, sym, refl, ap, ◌∙◌, inl, inr, arith}
+use Rattle.std.proofs.Common.{◌≡◌, ℕ, zero, suc, ◌+◌, ◌<◌, ◌≤◌, cond, eqb, not, sym, refl, ap, ◌∙◌, inl, inr, arith}
+use mir.Val.{bool_byte}
 use Rattle.std.proofs.lemmas.Bool.{cases_eq, cases_Bool, cond-true, cond-false, eq-eqb, ne_eqb}
 use Rattle.mapping.specs.Sv39Format.{any_below, count_below}
 use Rattle.mapping.specs.Sv39Words.{any_zero, any_where}
@@ -6,6 +7,9 @@ use Rattle.mapping.specs.Sv39Words.{any_zero, any_where}
 -- 1 of an entry that is not 0
 abbrev pub one : ℕ → ℕ
 one x = cond (eqb x 0) 0 1
+
+pub one_byte : (x : ℕ) → bool_byte (not (eqb x 0)) ≡ one x
+one_byte x = elim (cases_eq x 0) [ inl z ↦ rw (eq-eqb x 0 z) refl | inr n ↦ rw (ne_eqb x 0 n) refl ]
 
 pub one_zero : (x : ℕ) → x ≡ 0 → one x ≡ 0
 one_zero x z = cond-true (eqb x 0) 0 1 (eq-eqb x 0 z)
@@ -38,7 +42,7 @@ count_has f zero d h = absurd (omega arith)
 count_has f (suc n) d h =
     elim (cases_eq d n) [
       | inl e ↦ omega (arith, ap (λ x. one (f x)) e)
-      | inr e ↦ let l : d < n = lib.Arith.lt_of_le-ne {i = d} {k = n} (omega arith) e in omega (arith, count_has f n d l)
+      | inr e ↦ let l : d < n = omega arith in omega (arith, count_has f n d l)
     ]
 
 pub count_zero : (f : ℕ → ℕ) (n : ℕ) → count_below f n ≡ 0 → (d : ℕ) → d < n → f d ≡ 0
@@ -53,7 +57,7 @@ count_set f g (suc n) d h e =
     elim (cases_eq d n) [
       | inl q ↦ omega (arith, ap (λ x. one (f x)) q, ap (λ x. one (g x)) q, count_cong f g n (λ j l. e j (omega arith) (λ z. omega arith)))
       | inr q ↦
-          let l : d < n = lib.Arith.lt_of_le-ne {i = d} {k = n} (omega arith) q in
+          let l : d < n = omega arith in
           omega (arith, count_set f g n d l (λ j i. e j (omega arith)), ap one (e n (omega arith) (λ z. q (sym z))))
     ]
 

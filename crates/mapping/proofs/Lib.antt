@@ -3,6 +3,6 @@ pub mod AlphaCalls
 pub mod Counts
 pub mod Sv39Calls
 pub mod Sv39Exact
-pub mod Inverse
-mod AlphaState
-mod Sv39State
+pub mod AlphaState
+pub mod Sv39State
+pub mod Rewritten

@@ -4,9 +4,9 @@ use Rattle.mapping.specs.Told.{none_some, some_is}
 use Rattle.mapping.specs.declared.leaf.Leaf.{Leaf}
 use Rattle.mapping.specs.Leaves.{Leaves, Lawful}
 use Rattle.mapping.specs.Sv39Format.{sv39_word, held, sv39_at, sv39_sizes, lower_of, upper_of, any_leaf, sv39_of, sv39_entry, Sv39Table}
-use Rattle.mapping.specs.Sv39Words.{Sound, any_zero, any_where, word_frame, word_leaf, upper_kinds, lower_kinds, leaf_not, leaf_is, at_small, at_big}
+use Rattle.mapping.specs.Sv39Words.{Sound, any_zero, any_where, word_frame, word_leaf, upper_kinds, lower_kinds, leaf_not, leaf_is, at_small, at_big, sized}
 use Rattle.mapping.specs.Sv39Moves.{big_frame, sv39_lawful}
-use Rattle.mapping.proofs.Sv39Calls.{sized}
+use Rattle.mapping.specs.Inverse.{any_has}
 
 flags : (h : ℕ) → h < 2 → 67 + 132 * h ≡ cond (eqb h 1) 199 67
 flags h l = elim (cases_eq h 0) [ inl z ↦ rw z | inr n ↦ let z : h ≡ 1 = omega arith in rw z ]
@@ -105,20 +105,6 @@ has (Some a) e = (a, refl)
 lacks : {A : Type 0} (x : Option A) → is_some x ≡ false → x ≡ None
 lacks None e = refl
 lacks (Some a) e = absurd (true≢false e)
-
-pub any_has : (at : Leaves) (o p n d : ℕ) (l : Leaf) → d < n → at o (p + d) ≡ Some l → any_leaf at o p n ≡ true
-unfolding any_leaf
-any_has at o p zero d l h e = absurd (omega arith)
-any_has at o p (suc n) d l h e =
-    elim (cases_eq d n) [
-      | inl q ↦ cond-true _ true _ (ap is_some (ap (λ x. at o (p + x)) (sym q) ∙ e))
-      | inr q ↦
-          let i : d < n = lib.Arith.lt_of_le-ne {i = d} {k = n} (omega arith) q in
-          elim (cases_Bool (is_some (at o (p + n)))) [
-            | inl b ↦ cond-true _ true _ b
-            | inr b ↦ cond-false _ true _ b ∙ any_has at o p n d l i e
-          ]
-    ]
 
 any_finds : (at : Leaves) (o p n : ℕ) → any_leaf at o p n ≡ true → (d : ℕ) × (l : Leaf) × (d < n) × (at o (p + d) ≡ Some l)
 unfolding any_leaf

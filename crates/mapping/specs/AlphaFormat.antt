@@ -1,6 +1,6 @@
-use Rattle.std.specs.Prelude.{◌≡◌, ℕ, ◌+◌, ◌*◌, ◌/◌, ◌%◌, ◌^◌, ◌<◌, cond, ◌&&◌, List, [], ◌∷◌, length, Some, None, Option, ◌==◌, nat_lt, slice_index}
+use Rattle.std.specs.Prelude.{◌≡◌, ℕ, ◌+◌, ◌*◌, ◌/◌, ◌%◌, ◌^◌, ◌<◌, cond, ◌&&◌, List, [], ◌∷◌, Some, None, Option, ◌==◌, nat_lt, slice_index}
 use Rattle.mapping.specs.declared.leaf.Leaf.{Leaf}
-use Rattle.mapping.specs.Leaves.{Leaves, AllLawful, lay}
+use Rattle.mapping.specs.Leaves.{Leaves, AllLawful, IsTable, lay}
 
 abbrev pub alpha_sizes : List ℕ
 alpha_sizes = 9 ∷ 6 ∷ 3 ∷ 0 ∷ []
@@ -34,9 +34,8 @@ unfoldable pub alpha_at : List ℕ → ℕ → ℕ → Option Leaf
 alpha_at xs o p = cond (nat_lt o 4 && nat_lt p 1024) (alpha_leaf p (slice_index xs (o * 1024 + p))) None
 
 -- the table is exactly the one that the format gives for the leaves
-pub record AlphaTable (at : Leaves) (xs : List ℕ) : Type 0 where
-  pub long : length xs ≡ 4096
-  pub exact : (i : ℕ) → i < 4096 → slice_index xs i ≡ alpha_entry at i
+abbrev pub AlphaTable : Leaves → List ℕ → Type 0
+AlphaTable = IsTable 4096 alpha_entry
 
 -- an entry tells the leaf that it was made from, whatever lawful leaves there are
 abbrev pub AlphaTells : Type 0

@@ -1,17 +1,17 @@
-use Rattle.std.specs.Prelude.{◌≡◌, ℕ, ◌+◌, ◌*◌, ◌/◌, ◌%◌, ◌^◌, ◌<◌, ◌≤◌, cond, ◌≢◌, List, length, Some, None, ◌==◌, slice_index, slice_index_or}
+use Rattle.std.specs.Prelude.{◌≡◌, ℕ, ◌+◌, ◌*◌, ◌/◌, ◌%◌, ◌^◌, ◌<◌, ◌≤◌, Bool, true, false, cond, ◌≢◌, List, length, Some, None, ◌==◌, slice_index, slice_index_or}
 use Rattle.std.proofs.Math.Path.{refl, ap, sym}
 use Rattle.std.proofs.Common.{◌∙◌, subst}
 use Rattle.std.proofs.Math.Logic.{inl, inr}
 use native.Mathlib.Omega.{arith}
 use Rattle.std.proofs.Math.Nat.{mod-lt, mul-mod_left}
 use Rattle.std.proofs.lemmas.Nat.{pow_pos}
-use Rattle.std.proofs.lemmas.Bool.{cases_eq, cases_lt, cond-true, cond-false, eq-eqb, ne_eqb, lt-ltb, le-ltb, and_from, and_left, and_right}
-use Rattle.mapping.specs.Told.{none_some, some_is}
+use Rattle.std.proofs.lemmas.Bool.{cases_eq, cases_lt, cond-true, cond-false, eq-eqb, ne_eqb}
+use Rattle.mapping.specs.Told.{none_some, some_is, told_in, told_out}
 use Rattle.mapping.specs.declared.leaf.Leaf.{Leaf}
 use Rattle.mapping.specs.Leaves.{Lawful, OneOf, Falling, lay}
 use Rattle.mapping.specs.AlphaFormat.{order_in, fault_in, alpha_word, frame_in, neighbour, alpha_leaf, alpha_at, alpha_of, alpha_entry, alpha_sizes, AlphaTable}
-use Rattle.mapping.specs.AlphaWords.{Order, hinted, fault_bit, neighbour_is, neighbour_order, neighbour_fault, neighbour_frame, neighbour_some}
-use Rattle.mapping.specs.Aligned.{in_block}
+use Rattle.mapping.specs.AlphaWords.{Order, hinted, word_order, word_fault, word_first, word_some, fault_bit, neighbour_is, neighbour_order, neighbour_fault, neighbour_frame, neighbour_some}
+use Rattle.mapping.specs.Aligned.{in_block, start}
 use Rattle.mapping.specs.AlphaTables.{Sound}
 
 pub by_order : (P : ℕ → Type 0) → P 0 → P 3 → P 6 → P 9 → (k : ℕ) → Order k → P k
@@ -41,15 +41,17 @@ same_rest k o p r = by_order (λ k. (o * 1024 + p) % 2 ^ k ≡ p % 2 ^ k) (omega
 
 pub at_in : (xs : List ℕ) (o p : ℕ) → o < 4 → p < 1024 → alpha_at xs o p ≡ alpha_leaf p (slice_index xs (o * 1024 + p))
 unfolding alpha_at
-at_in xs o p a b = cond-true _ _ _ (and_from _ _ (lt-ltb o 4 a) (lt-ltb p 1024 b))
+at_in xs o p a b = told_in _ o p a b
+
+pub at_out : (xs : List ℕ) (o p : ℕ) → ((o < 4) × (p < 1024) → ⊥) → alpha_at xs o p ≡ None
+unfolding alpha_at
+at_out xs o p out = told_out _ o p out
 
 pub at_object : (xs : List ℕ) (o p : ℕ) → 4 ≤ o → alpha_at xs o p ≡ None
-unfolding alpha_at
-at_object xs o p a = cond-false _ _ _ (and_left _ _ (le-ltb o 4 a))
+at_object xs o p a = at_out xs o p (λ h. let b = h.0 in omega arith)
 
 pub at_page : (xs : List ℕ) (o p : ℕ) → 1024 ≤ p → alpha_at xs o p ≡ None
-unfolding alpha_at
-at_page xs o p a = cond-false _ _ _ (and_right _ _ (le-ltb p 1024 a))
+at_page xs o p a = at_out xs o p (λ h. let b = h.1 in omega arith)
 
 abbrev pub leaf_at : ℕ → ℕ → Leaf
 leaf_at p e = lay (p / 2 ^ order_in e * 2 ^ order_in e) (order_in e) (frame_in e) (fault_in e == 0)
@@ -167,3 +169,44 @@ module _ (xs : List ℕ) (sound : Sound (λ i. slice_index xs i)) where
 
   pub alpha_table : length xs ≡ 4096 → AlphaTable (alpha_at xs) xs
   alpha_table l = record { long = l; exact = alpha_entry_lem }
+
+pub fault_small : (v : Bool) → cond v 0 1 < 2
+fault_small true = omega arith
+fault_small false = omega arith
+
+fault_back : (v : Bool) → (cond v 0 1 == 0) ≡ v
+fault_back true = refl
+fault_back false = refl
+
+-- an entry made from a leaf tells that leaf
+pub read_back : (l : Leaf) (p j : ℕ) → Order l.order → l.first.0 % 2 ^ l.order ≡ 0 → l.frame.0 % 2 ^ l.order ≡ 0
+    → l.first.0 ≤ p → p < l.first.0 + 2 ^ l.order
+    → alpha_leaf p (alpha_word (l.frame.0 + j % 2 ^ l.order) l.order (cond l.writable 0 1)) ≡ Some l
+read_back l p j r even straight from below =
+    let k : ℕ = l.order in
+    let h : ℕ = cond l.writable 0 1 in
+    let bit : h < 2 = fault_small l.writable in
+    let f : ℕ = l.frame.0 + j % 2 ^ k in
+    let c : p / 2 ^ k * 2 ^ k ≡ l.first.0 = ap (λ z. z * 2 ^ k) (in_block k l.first.0 p even from below) ∙ start k l.first.0 even in
+    leaf_is p (alpha_word f k h) (word_some f k h)
+    ∙ ap (λ z. Some (lay (p / 2 ^ z * 2 ^ z) z (frame_in (alpha_word f k h)) (fault_in (alpha_word f k h) == 0))) (word_order f k h r bit)
+    ∙ ap (λ z. Some (lay z k (frame_in (alpha_word f k h)) (fault_in (alpha_word f k h) == 0))) c
+    ∙ ap (λ z. Some (lay l.first.0 k z (fault_in (alpha_word f k h) == 0))) (word_first l.frame.0 j k h r bit straight)
+    ∙ ap (λ z. Some (lay l.first.0 k l.frame.0 (z == 0))) (word_fault f k h r bit)
+    ∙ ap (λ z. Some (lay l.first.0 k l.frame.0 z)) (fault_back l.writable)
+
+-- a size of Alpha's
+pub order_of : (k : ℕ) → OneOf alpha_sizes k → Order k
+order_of k s =
+    let t = s.there in
+    let e = s.is in
+    elim (cases_eq s.place 0) [
+      | inl z ↦ record { part = 3; few = omega arith; is = sym e ∙ ap (λ i. slice_index alpha_sizes i) z }
+      | inr y ↦ elim (cases_eq s.place 1) [
+        | inl z ↦ record { part = 2; few = omega arith; is = sym e ∙ ap (λ i. slice_index alpha_sizes i) z }
+        | inr x ↦ elim (cases_eq s.place 2) [
+          | inl z ↦ record { part = 1; few = omega arith; is = sym e ∙ ap (λ i. slice_index alpha_sizes i) z }
+          | inr v ↦ let z : s.place ≡ 3 = omega arith in record { part = 0; few = omega arith; is = sym e ∙ ap (λ i. slice_index alpha_sizes i) z }
+        ]
+      ]
+    ]

@@ -1,5 +1,6 @@
-use Rattle.std.specs.Prelude.{◌≡◌, ℕ, ◌+◌, ◌%◌, ◌^◌, ◌<◌, ◌≤◌, Bool, ◌⊎◌, List, length, Some, None, Ok, Err, Option, Result, ◌≢◌, slice_index, slice_index_or}
-use Rattle.blocks.specs.declared.block.PageBlock.{PageBlock}
+use Rattle.std.specs.Prelude.{◌≡◌, ℕ, ◌+◌, ◌%◌, ◌^◌, ◌<◌, ◌≤◌, Bool, ◌⊎◌, List, length, map, Some, None, Ok, Err, Option, Result, ◌≢◌, slice_index, slice_index_or}
+use Rattle.blocks.specs.declared.block.Block.{Block}
+use Rattle.blocks.specs.declared.number.PageNumber.{PageNumber}
 use Rattle.blocks.specs.declared.number.FrameNumber.{FrameNumber}
 use Rattle.mapping.specs.declared.leaf.Leaf.{Leaf}
 use Rattle.mapping.specs.declared.leaf.NoLeaf.{NoLeaf}
@@ -15,7 +16,7 @@ abbrev pub lay : ℕ → ℕ → ℕ → Bool → Leaf
 lay f k n w = record { first = record { 0 = f }; order = k; frame = record { 0 = n }; writable = w }
 
 -- the leaf that a put lays on a block
-abbrev pub laid : PageBlock → FrameNumber → Bool → Leaf
+abbrev pub laid : Block PageNumber → FrameNumber → Bool → Leaf
 laid b f w = lay b.block.first b.block.order f.0 w
 
 -- the numbers of the refusals
@@ -142,3 +143,18 @@ pub record Undone (sizes : List ℕ) (before after : Leaves) (o : ℕ) (l : Leaf
 abbrev pub PutThenCleared : List ℕ → Leaves → Leaves → ℕ → Leaf → Result Unit PutError → Type 0
 PutThenCleared sizes before after o l (Ok _) = Undone sizes before after o l
 PutThenCleared sizes before after o l (Err e) = PutRefused sizes before o l (put_error_number e) × (after ≡ before)
+
+-- the table of this many entries is exactly the one that a format gives for the leaves
+pub record IsTable (entries : ℕ) (entry : Leaves → ℕ → ℕ) (at : Leaves) (xs : List ℕ) : Type 0 where
+  pub long : length xs ≡ entries
+  pub exact : (i : ℕ) → i < entries → slice_index xs i ≡ entry at i
+
+-- a page's entries tell the leaf that they were made from, whatever lawful leaves there are
+abbrev pub Tells : List ℕ → (Leaves → ℕ → ℕ) → ((ℕ → ℕ) → ℕ → ℕ → Option Leaf) → Type 0
+Tells sizes entry tell = (at : Leaves) → AllLawful sizes at → (o p : ℕ) → o < 4 → p < 1024 → tell (entry at) o p ≡ at o p
+
+-- so the entries at a page's places determine its leaf
+abbrev pub Determines : List ℕ → (Leaves → ℕ → ℕ) → (ℕ → ℕ → List ℕ) → Type 0
+Determines sizes entry places =
+    (at bt : Leaves) → AllLawful sizes at → AllLawful sizes bt → (o p : ℕ) → o < 4 → p < 1024
+    → map (entry at) (places o p) ≡ map (entry bt) (places o p) → at o p ≡ bt o p

@@ -9,3 +9,4 @@ pub mod AlphaTables
 pub mod Sv39Moves
 pub mod Reaching
 pub mod Sv39Words
+pub mod Inverse

@@ -1,6 +1,6 @@
-use Rattle.std.specs.Prelude.{◌≡◌, ℕ, zero, suc, ◌+◌, ◌-◌, ◌*◌, ◌/◌, ◌%◌, ◌<◌, Bool, true, false, cond, ◌&&◌, List, [], ◌∷◌, length, is_some, Some, None, Option, ◌==◌, nat_lt, slice_index}
+use Rattle.std.specs.Prelude.{◌≡◌, ℕ, zero, suc, ◌+◌, ◌-◌, ◌*◌, ◌/◌, ◌%◌, ◌<◌, Bool, true, false, cond, ◌&&◌, List, [], ◌∷◌, is_some, Some, None, Option, ◌==◌, nat_lt, slice_index}
 use Rattle.mapping.specs.declared.leaf.Leaf.{Leaf}
-use Rattle.mapping.specs.Leaves.{Leaves, AllLawful, lay}
+use Rattle.mapping.specs.Leaves.{Leaves, AllLawful, IsTable, lay}
 
 abbrev pub sv39_sizes : List ℕ
 sv39_sizes = 9 ∷ 0 ∷ []
@@ -44,9 +44,8 @@ unfoldable pub sv39_at : List ℕ → ℕ → ℕ → Option Leaf
 sv39_at xs o p = cond (nat_lt o 4 && nat_lt p 1024) (walk (slice_index xs (o * 2 + p / 512)) (slice_index xs (8 + o * 1024 + p)) p) None
 
 -- the table is exactly the one that the format gives for the leaves
-pub record Sv39Table (at : Leaves) (xs : List ℕ) : Type 0 where
-  pub long : length xs ≡ 4104
-  pub exact : (i : ℕ) → i < 4104 → slice_index xs i ≡ sv39_entry at i
+abbrev pub Sv39Table : Leaves → List ℕ → Type 0
+Sv39Table = IsTable 4104 sv39_entry
 
 -- a page's two entries tell the leaf that they were made from, whatever lawful leaves there are
 abbrev pub Sv39Tells : Type 0

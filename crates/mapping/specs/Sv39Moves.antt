@@ -1,4 +1,4 @@
-use Rattle.std.specs.Prelude.{◌≡◌, ℕ, ◌+◌, ◌-◌, ◌*◌, ◌/◌, ◌%◌, ◌^◌, ◌<◌, ◌≤◌, true, false, ◌≢◌, List, Some, Option, slice_index, slice_index_or, refl}
+use Rattle.std.specs.Prelude.{◌≡◌, ℕ, ◌+◌, ◌-◌, ◌*◌, ◌/◌, ◌%◌, ◌^◌, ◌<◌, ◌≤◌, Bool, true, false, cond, ◌≢◌, List, Some, Option, slice_index, slice_index_or, refl}
 use Rattle.std.proofs.Common.{ap, ◌∙◌, subst, inl, inr}
 use Rattle.std.proofs.Math.Path.{sym}
 use native.Mathlib.Omega.{arith}
@@ -7,7 +7,7 @@ use Rattle.mapping.specs.Told.{none_some, some_is}
 use Rattle.mapping.specs.declared.leaf.Leaf.{Leaf}
 use Rattle.mapping.specs.Leaves.{Lawful, Falling, Filled}
 use Rattle.mapping.specs.Sv39Format.{lower_word, upper_word, held, sv39_leaf, walk, sv39_at, sv39_sizes}
-use Rattle.mapping.specs.Sv39Words.{Sound, On, Moved, step, any_some, any_none, word_frame, lower_zero, upper_kinds, leaf_not, leaf_is, leaf_of, at_in, at_object, at_page, at_small, at_big}
+use Rattle.mapping.specs.Sv39Words.{Sound, On, Moved, Topped, Lowered, step, any_some, any_none, word_frame, lower_zero, upper_zero, upper_held, upper_kinds, leaf_not, leaf_is, leaf_of, at_in, at_object, at_page, at_small, at_big}
 
 pub sv39_falling : Falling sv39_sizes
 sv39_falling =
@@ -139,26 +139,23 @@ module _ (xs ys : List ℕ) (n : ℕ) (mv : Moved (λ i. slice_index xs i) (λ i
                 ∙ sym (at_small xs sx o p a g (subst (λ m. slice_index xs m % 4 ≢ 3) (sym i) nx))
           ]
 
--- a top entry is set, and its table is empty
-module _ (xs ys : List ℕ) (n v : ℕ) (m : n < 8) (sound : Sound (λ i. slice_index xs i))
-    (here : slice_index_or ys n 0 ≡ v) (empty : (d : ℕ) → d < 512 → slice_index ys (8 + n * 512 + d) ≡ 0)
-    (others : (j : ℕ) → (j ≢ n) → (On n j → ⊥) → slice_index ys j ≡ slice_index xs j) where
+module _ (xs ys : List ℕ) (n v : ℕ) (m : n < 8) (w : Topped xs ys n v) where
   pub top_moved : Moved (λ i. slice_index xs i) (λ i. slice_index ys i) n
-  top_moved = record { tops = λ k h ne. others k ne (λ o. let a = o.from in omega arith); lows = λ i h off. others i (λ e. omega arith) off }
+  top_moved = record { tops = λ k h ne. w.others k ne (λ o. let a = o.from in omega arith); lows = λ i h off. w.others i (λ e. omega arith) off }
 
   none_held : held (λ i. slice_index ys i) n ≡ false
   unfolding held
-  none_held = any_none _ 512 empty
+  none_held = any_none _ 512 w.inside
 
-  pub top_sound : v < 2 ^ 21 → v ≡ upper_word n v false → Sound (λ i. slice_index ys i)
-  top_sound f w =
+  pub top_sound : Sound (λ i. slice_index xs i) → v < 2 ^ 21 → v ≡ upper_word n v false → Sound (λ i. slice_index ys i)
+  top_sound sound f u =
       step (λ i. slice_index xs i) (λ i. slice_index ys i) n sound top_moved
       (λ i o. let a = o.from in let b = o.below in
       let e : 8 + n * 512 + (i - (8 + n * 512)) ≡ i = omega arith in
-      let z : slice_index_or ys i 0 ≡ 0 = subst (λ j. slice_index ys j ≡ 0) e (empty (i - (8 + n * 512)) (omega arith)) in
+      let z : slice_index_or ys i 0 ≡ 0 = subst (λ j. slice_index ys j ≡ 0) e (w.inside (i - (8 + n * 512)) (omega arith)) in
       (omega arith, subst (λ x. x ≡ lower_word x) (sym z) lower_zero))
-      (subst (λ x. x < 2 ^ 21) (sym here) f)
-      (here ∙ w ∙ ap (λ x. upper_word n x false) (sym here) ∙ ap (upper_word n (slice_index ys n)) (sym none_held))
+      (subst (λ x. x < 2 ^ 21) (sym w.here) f)
+      (w.here ∙ u ∙ ap (λ x. upper_word n x false) (sym w.here) ∙ ap (upper_word n (slice_index ys n)) (sym none_held))
 
 -- an entry of a table is set, and then its top entry
 module _ (xs ys : List ℕ) (n i v w : ℕ) (m : n < 8) (on : On n i) (sound : Sound (λ i. slice_index xs i))
@@ -182,3 +179,20 @@ module _ (xs ys : List ℕ) (n i v w : ℕ) (m : n < 8) (on : On n i) (sound : S
       let a = on.from in let b = on.below in
       let e : 8 + n * 512 + (i - (8 + n * 512)) ≡ i = omega arith in
       any_some _ 512 (i - (8 + n * 512)) (omega arith) (λ z. ne (sym here ∙ sym (ap (λ j. slice_index ys j) e) ∙ z))
+
+-- the same of a step that points to the table if it holds a leaf
+module _ (xs ys : List ℕ) (n i v : ℕ) (m : n < 8) (on : On n i) (w : Lowered xs ys n i v) where
+  pub lowered_moved : Moved (λ i. slice_index xs i) (λ i. slice_index ys i) n
+  lowered_moved = record { tops = λ k h ne. w.others k (λ e. let a = on.from in omega arith) ne; lows = λ j h off. w.others j (λ e. off (subst (On n) (sym e) on)) (λ e. omega arith) }
+
+  kinds : (e : ℕ) (h : Bool) → e ≡ cond h (n * 1024 + 1) 0 → (e < 2 ^ 21) × (e ≡ upper_word n e h) × (e % 4 ≢ 3)
+  kinds e true is = (omega arith, is ∙ sym (upper_held n e), λ h. omega arith)
+  kinds e false is = (omega arith, is ∙ upper_zero n ∙ ap (λ x. upper_word n x false) (sym is), λ h. omega arith)
+
+  pub lowered_free : slice_index ys n % 4 ≢ 3
+  lowered_free = (kinds _ _ w.top).2
+
+  pub lowered_sound : Sound (λ i. slice_index xs i) → v < 2 ^ 21 → v ≡ lower_word v → Sound (λ i. slice_index ys i)
+  lowered_sound sound f g =
+      let k = kinds (slice_index ys n) (held (λ i. slice_index ys i) n) w.top in
+      low_sound xs ys n i v (slice_index ys n) m on sound w.here refl w.others f g k.0 k.1

@@ -3,10 +3,11 @@ use Rattle.std.proofs.Common.{ap, ◌∙◌, subst}
 use Rattle.std.proofs.Math.Path.{sym}
 use Rattle.std.proofs.Math.Logic.{inl, inr}
 use native.Mathlib.Omega.{arith}
-use Rattle.std.proofs.lemmas.Bool.{cases_eq, cases_lt, cond-true, cond-false, eq-eqb, ne_eqb, lt-ltb, le-ltb, and_from, and_left, and_right, true≢false, both_ways}
+use Rattle.std.proofs.lemmas.Bool.{cases_eq, cases_lt, cond-true, cond-false, eq-eqb, ne_eqb, true≢false, both_ways}
+use Rattle.mapping.specs.Told.{told_in, told_out}
 use Rattle.mapping.specs.declared.leaf.Leaf.{Leaf}
-use Rattle.mapping.specs.Leaves.{lay}
-use Rattle.mapping.specs.Sv39Format.{sv39_word, lower_word, upper_word, any_below, held, sv39_leaf, walk, sv39_at}
+use Rattle.mapping.specs.Leaves.{OneOf, lay}
+use Rattle.mapping.specs.Sv39Format.{sv39_word, lower_word, upper_word, any_below, held, sv39_leaf, walk, sv39_at, sv39_sizes}
 
 pub any_cong : (f g : ℕ → ℕ) (n : ℕ) → ((d : ℕ) → d < n → f d ≡ g d) → any_below f n ≡ any_below g n
 unfolding any_below
@@ -24,7 +25,7 @@ any_some f zero d h z = absurd (omega arith)
 any_some f (suc n) d h z =
     elim (cases_eq (f n) 0) [
       | inr y ↦ cond-false (f n == 0) (any_below f n) true (ne_eqb (f n) 0 y)
-      | inl y ↦ cond-true (f n == 0) (any_below f n) true (eq-eqb (f n) 0 y) ∙ any_some f n d (elim (cases_eq d n) [ inl e ↦ absurd (z (ap f e ∙ y)) | inr e ↦ omega (arith, lib.Arith.lt_of_le-ne {i = d} {k = n} (omega arith) e) ]) z
+      | inl y ↦ cond-true (f n == 0) (any_below f n) true (eq-eqb (f n) 0 y) ∙ any_some f n d (elim (cases_eq d n) [ inl e ↦ absurd (z (ap f e ∙ y)) | inr e ↦ omega arith ]) z
     ]
 
 pub any_zero : (f : ℕ → ℕ) (n : ℕ) → any_below f n ≡ false → (d : ℕ) → d < n → f d ≡ 0
@@ -54,6 +55,18 @@ pub record On (n i : ℕ) : Type 0 where
 pub record Moved (s t : ℕ → ℕ) (n : ℕ) : Type 0 where
   pub tops : (m : ℕ) → m < 8 → (m ≢ n) → t m ≡ s m
   pub lows : (i : ℕ) → 8 ≤ i → (On n i → ⊥) → t i ≡ s i
+
+-- upper entry n is set to v, and every entry of its table is 0; all others stay
+pub record Topped (xs ys : List ℕ) (n v : ℕ) : Type 0 where
+  pub here : slice_index_or ys n 0 ≡ v
+  pub inside : (d : ℕ) → d < 512 → slice_index ys (8 + n * 512 + d) ≡ 0
+  pub others : (j : ℕ) → (j ≢ n) → (On n j → ⊥) → slice_index ys j ≡ slice_index xs j
+
+-- entry i of table n is set to v, and upper entry n points to the table if it holds a leaf; all others stay
+pub record Lowered (xs ys : List ℕ) (n i v : ℕ) : Type 0 where
+  pub here : slice_index_or ys i 0 ≡ v
+  pub top : slice_index_or ys n 0 ≡ cond (held (λ i. slice_index ys i) n) (n * 1024 + 1) 0
+  pub others : (j : ℕ) → (j ≢ i) → (j ≢ n) → slice_index ys j ≡ slice_index xs j
 
 on? : (n i : ℕ) → On n i ⊎ (On n i → ⊥)
 on? n i = elim (cases_lt i (8 + n * 512)) [
@@ -162,15 +175,17 @@ leaf_is f k e n = cond-true _ _ _ (eq-eqb (e % 4) 3 n)
 
 pub at_in : (xs : List ℕ) (o p : ℕ) → o < 4 → p < 1024 → sv39_at xs o p ≡ walk (slice_index xs (o * 2 + p / 512)) (slice_index xs (8 + o * 1024 + p)) p
 unfolding sv39_at
-at_in xs o p a b = cond-true _ _ _ (and_from _ _ (lt-ltb o 4 a) (lt-ltb p 1024 b))
+at_in xs o p a b = told_in _ o p a b
+
+pub at_out : (xs : List ℕ) (o p : ℕ) → ((o < 4) × (p < 1024) → ⊥) → sv39_at xs o p ≡ None
+unfolding sv39_at
+at_out xs o p out = told_out _ o p out
 
 pub at_object : (xs : List ℕ) (o p : ℕ) → 4 ≤ o → sv39_at xs o p ≡ None
-unfolding sv39_at
-at_object xs o p a = cond-false _ _ _ (and_left _ _ (le-ltb o 4 a))
+at_object xs o p a = at_out xs o p (λ h. let b = h.0 in omega arith)
 
 pub at_page : (xs : List ℕ) (o p : ℕ) → 1024 ≤ p → sv39_at xs o p ≡ None
-unfolding sv39_at
-at_page xs o p a = cond-false _ _ _ (and_right _ _ (le-ltb p 1024 a))
+at_page xs o p a = at_out xs o p (λ h. let b = h.1 in omega arith)
 
 pub walk_big : (t l p : ℕ) → (t % 4 ≢ 1) → walk t l p ≡ sv39_leaf (p / 512 * 512) 9 t
 unfolding walk
@@ -201,3 +216,25 @@ module _ (xs : List ℕ) (sound : Sound (λ i. slice_index xs i)) (o p : ℕ) (a
 
   pub at_big : slice_index_or xs (o * 2 + p / 512) 0 % 4 ≡ 3 → sv39_at xs o p ≡ Some (leaf_of (p / 512 * 512) 9 (slice_index xs (o * 2 + p / 512)))
   at_big h = at_in xs o p a b ∙ walk_big _ _ p (λ w. omega arith) ∙ leaf_is _ 9 _ h
+
+pub bit_low : (w : Bool) → cond w 1 0 < 2
+bit_low true = omega arith
+bit_low false = omega arith
+
+bit_back : (w : Bool) → (cond w 1 0 == 1) ≡ w
+bit_back true = refl
+bit_back false = refl
+
+pub sized : (k : ℕ) → OneOf sv39_sizes k → (k ≡ 9) ⊎ (k ≡ 0)
+sized k s =
+    let t = s.there in
+    elim (cases_eq s.place 0) [
+      | inl z ↦ inl (sym s.is ∙ ap (λ i. slice_index sv39_sizes i) z)
+      | inr y ↦ let z : s.place ≡ 1 = omega arith in inr (sym s.is ∙ ap (λ i. slice_index sv39_sizes i) z)
+    ]
+
+pub leaf_word : (f k n : ℕ) (w : Bool) → Some (leaf_of f k (sv39_word n (cond w 1 0))) ≡ Some (lay f k n w)
+leaf_word f k n w =
+    ap (λ x. Some (lay (f) (k) (x) (sv39_word n (cond w 1 0) / 4 % 2 == 1))) (word_frame n (cond w 1 0) (bit_low w))
+    ∙ ap (λ x. Some (lay (f) (k) (n) (x == 1))) (word_bit n (cond w 1 0) (bit_low w))
+    ∙ ap (λ x. Some (lay (f) (k) (n) (x))) (bit_back w)

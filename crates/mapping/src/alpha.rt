@@ -1,15 +1,16 @@
-ghost use Rattle.std.specs.Prelude.{◌≡◌, ℕ, ◌+◌, ◌*◌, ◌/◌, ◌%◌, ◌^◌, ◌<◌, ◌≤◌, length, if◌then◌else◌, None, vec_len, MatchResult, OnErr, ◌≢◌, slice_index};
+ghost use Rattle.std.specs.Prelude.{◌≡◌, ℕ, ◌+◌, ◌*◌, ◌/◌, ◌%◌, ◌^◌, ◌<◌, ◌≤◌, List, [], ◌∷◌, length, if◌then◌else◌, None, vec_len, OnErr, slice_index, EachIndex};
 ghost use Rattle.mapping.specs.Leaves.{bad_alpha_number, Put, Clear, laid};
 ghost use Rattle.mapping.specs.AlphaFormat.{order_in, neighbour, alpha_leaf, alpha_word, alpha_at, alpha_sizes, alpha_entry, AlphaTable};
 ghost use Rattle.mapping.specs.AlphaLeaves.{alpha_falling, alpha_lawful};
+ghost use Rattle.mapping.specs.Inverse.{alpha_tells, alpha_determines_places};
 ghost use Rattle.std.proofs.Common.{arith};
 
-use crate::fit::{asked, fits, floor, span};
+use crate::board::{AcceptedTable, Board, Format};
+use crate::fit::{asked, floor, in_range, span};
 use crate::hardware::{Geometry, MappingHardware};
 use crate::leaf::{Leaf, NoLeaf, PutError};
-use crate::table::{read, write};
-use blocks::block::PageBlock;
-use blocks::number::{FrameNumber, PageNumber};
+use blocks::block::ObjectBlock;
+use blocks::number::{FrameNumber, ObjectPage, PageNumber};
 
 // A flat table with an entry for each page of each object, whatever the order of its leaf.
 #[derive(Drop)]
@@ -19,27 +20,6 @@ pub struct Alpha {
     ghost long: { vec_len table ≡ 4096 },
     ghost small: { (i : ℕ) → slice_index table.items i < 2 ^ 43 },
     ghost same: { (i j : ℕ) → j / 2 ^ order_in (slice_index table.items i) ≡ i / 2 ^ order_in (slice_index table.items i) → slice_index table.items j ≡ neighbour (slice_index table.items i) j },
-}
-
-// A table of the right length, still with what its owner left in it.
-#[derive(Drop)]
-pub struct AcceptedAlpha {
-    table: Vec<u64>,
-    ghost long: { vec_len table ≡ 4096 },
-}
-
-// A table of another length, handed back.
-#[derive(Drop)]
-pub struct BadAlphaTable {
-    pub table: Vec<u64>,
-}
-
-impl BadAlphaTable {
-    pub fn number(&self) -> u8
-        ensures { result ≡ bad_alpha_number }
-    {
-        18
-    }
 }
 
 // Valid, and the kernel may read and write.
@@ -54,6 +34,7 @@ const HINT: u64 = 32;
 const FRAME: u64 = 4294967296;
 
 // The order that an entry's granularity hint names; 0 of an entry without a leaf.
+#[tactic(auto, unfolding(crate::specs::AlphaFormat::order_in))]
 fn order_of(entry: u64) -> u8
     ensures { (result ≡ order_in entry) × (result ≤ 9) }
 {
@@ -62,6 +43,7 @@ fn order_of(entry: u64) -> u8
 
 // The leaf that an entry tells at a page. An entry has the page's own frame, so the leaf's first frame is the
 // multiple of its count at or below.
+#[tactic(auto, using(crate::specs::AlphaLeaves::leaf_is, crate::specs::AlphaLeaves::leaf_none), unfolding(crate::specs::AlphaFormat::frame_in, crate::specs::AlphaFormat::fault_in))]
 fn decode(page: u16, entry: u64) -> Option<Leaf>
     requires { entry < 2 ^ 43 }
     ensures { result ≡ alpha_leaf page entry }
@@ -79,6 +61,7 @@ fn decode(page: u16, entry: u64) -> Option<Leaf>
 }
 
 // The entry of a leaf's first page.
+#[tactic(auto, unfolding(crate::specs::AlphaFormat::alpha_word))]
 fn encode(leaf: Leaf) -> u64
     ensures { (result ≡ alpha_word leaf.frame.0 leaf.order (if leaf.writable then 0 else 1)) × (result < (leaf.frame.0 + 1) * 4294967296) }
 {
@@ -86,11 +69,14 @@ fn encode(leaf: Leaf) -> u64
     leaf.frame.0 as u64 * FRAME + PRESENT + HINT * (leaf.order / 3) as u64 + fault
 }
 
-// Where the entry of an object's page stands.
-fn place(object: u8, page: PageNumber) -> usize
-    ensures { result ≡ object * 1024 + page.0 }
+// Writes the entries of a leaf's pages: each has the next frame.
+fn lay(entries: &mut [u64], first: u64)
+    requires { first + length entries.old * 4294967296 < 2 ^ 64 }
+    ensures { EachIndex entries.new (λ d. slice_index entries.new d ≡ first + d * 4294967296) }
 {
-    object as usize * 1024 + page.0 as usize
+    for (d, entry) in entries.iter_mut().enumerate() {
+        *entry = first + d as u64 * FRAME;
+    }
 }
 
 impl Geometry for Alpha {
@@ -98,17 +84,33 @@ impl Geometry for Alpha {
 
     const SIZES: &'static [u8] = &[9, 6, 3, 0];
 
-    ghost bytes = { 8192 };
+    ghost PAGE_BYTES = { 8192 };
 
     ghost sizes = { alpha_sizes };
-
-    fn bytes_a_page() -> u32 {
-        Self::PAGE_BYTES
-    }
 
     fn orders() -> &'static [u8] {
         Self::SIZES
     }
+}
+
+impl Format for Alpha {
+    const ENTRIES: usize = 4096;
+
+    const BAD_TABLE: u8 = 18;
+
+    ghost ENTRIES = { 4096 };
+
+    ghost BAD_TABLE = { bad_alpha_number };
+
+    ghost entry = { alpha_entry };
+
+    ghost places = { λ o p. (o * 1024 + p) ∷ [] };
+
+    ghost tell = { λ t o p. alpha_leaf p (t (o * 1024 + p)) };
+
+    ghost tells = { alpha_tells };
+
+    ghost determines = { alpha_determines_places };
 }
 
 impl MappingHardware for Alpha {
@@ -120,91 +122,82 @@ impl MappingHardware for Alpha {
 
     ghost lawful = { λ s. alpha_lawful s.table.items (record { small = s.small; same = s.same }) };
 
-    fn leaf(&self, object: u8, page: PageNumber) -> Option<Leaf> {
-        if object > 3 || page.0 > 1023 {
+    fn leaf(&self, page: ObjectPage) -> Option<Leaf> {
+        if !in_range(page) {
             return None;
         }
-        decode(page.0, read(&self.table, place(object, page)))
+        decode(page.number.0, self.table[page.index()])
     }
 
     // A leaf that reaches out of the block covers its first page too, so that page's entry tells.
+    #[tactic(auto, using(crate::proofs::AlphaState::table_of))]
     fn put(
         &mut self,
-        object: u8,
-        pages: PageBlock,
+        pages: ObjectBlock,
         frame: FrameNumber,
         writable: bool,
     ) -> Result<(), PutError>
-        ensures leaves { Put alpha_sizes (alpha_at self.old.table.items) (alpha_at self.new.table.items) object (laid pages frame writable) result }
+        ensures leaves { Put alpha_sizes (alpha_at self.old.table.items) (alpha_at self.new.table.items) pages.object (laid pages.pages frame writable) result }
         ensures entries { AlphaTable (alpha_at self.new.table.items) self.new.table.items }
         ensures refused { OnErr result (self.new ≡ self.old) }
     {
-        let leaf = asked(pages, frame, writable);
-        if !fits(Self::SIZES, object, leaf) {
-            return Err(PutError::Misfit);
-        }
-        let start = place(object, leaf.first);
-        if order_of(read(&self.table, start)) > leaf.order {
+        let leaf = asked(Self::SIZES, pages, frame, writable)?;
+        let start = pages.first().index();
+        if order_of(self.table[start]) > leaf.order {
             return Err(PutError::Reaching);
         }
-        let count = span(leaf.order) as usize;
-        write(&mut self.table, start, count, encode(leaf), FRAME);
+        let end = start + span(leaf.order) as usize;
+        lay(&mut self.table[start..end], encode(leaf));
         Ok(())
     }
 
-    fn clear(&mut self, object: u8, page: PageNumber) -> Result<u8, NoLeaf>
-        ensures leaves { Clear (alpha_at self.old.table.items) (alpha_at self.new.table.items) object page.0 result }
+    #[tactic(auto, using(crate::proofs::AlphaState::table_of))]
+    fn clear(&mut self, page: ObjectPage) -> Result<u8, NoLeaf>
+        ensures leaves { Clear (alpha_at self.old.table.items) (alpha_at self.new.table.items) page.object page.number.0 result }
         ensures entries { AlphaTable (alpha_at self.new.table.items) self.new.table.items }
         ensures refused { OnErr result (self.new ≡ self.old) }
     {
-        if object > 3 || page.0 > 1023 {
+        if !in_range(page) {
             return Err(NoLeaf);
         }
-        let entry = read(&self.table, place(object, page));
+        let entry = self.table[page.index()];
         if entry == 0 {
             return Err(NoLeaf);
         }
         let order = order_of(entry);
-        let start = place(object, PageNumber(floor(page.0, order)));
-        write(&mut self.table, start, span(order) as usize, 0, 0);
+        let first = ObjectPage {
+            object: page.object,
+            number: PageNumber(floor(page.number.0, order)),
+        };
+        let start = first.index();
+        let end = start + span(order) as usize;
+        self.table[start..end].fill(0);
         Ok(order)
     }
 }
 
-impl Alpha {
-    pub const ENTRIES: usize = 4096;
+impl Board for Alpha {
+    ghost words = { λ s. s.table.items };
 
-    pub fn check(table: Vec<u64>) -> Result<AcceptedAlpha, BadAlphaTable>
-        ensures { MatchResult result (λ a. (a.table ≡ table) × (vec_len table ≡ 4096)) (λ b. (b.table ≡ table) × (vec_len table ≢ 4096)) }
-    {
-        if table.len() == Self::ENTRIES {
-            Ok(AcceptedAlpha { table })
-        } else {
-            Err(BadAlphaTable { table })
-        }
+    #[tactic(auto, using(crate::proofs::AlphaState::table_of))]
+    fn entries(&self) -> &[u64] {
+        &self.table
     }
 
-    pub fn make(accepted: AcceptedAlpha) -> Alpha
+    #[tactic(auto, using(crate::proofs::AlphaState::table_of))]
+    fn into_parts(self) -> Vec<u64> {
+        self.table
+    }
+}
+
+impl Alpha {
+    // A board without a leaf. One for each board: see `Board`.
+    pub fn make(accepted: AcceptedTable<Alpha>) -> Alpha
         ensures none { (o p : ℕ) → alpha_at result.table.items o p ≡ None }
         ensures zeroed { (i : ℕ) → slice_index result.table.items i ≡ 0 }
     {
-        let AcceptedAlpha { mut table } = accepted;
-        write(&mut table, 0, Self::ENTRIES, 0, 0);
+        let mut table = accepted.table;
+        table.fill(0);
         Alpha { table }
-    }
-
-    // The table: each entry is the one that the format gives for the leaves.
-    pub fn entries(&self) -> &[u64]
-        ensures { AlphaTable (alpha_at self.now.table.items) result.now }
-    {
-        self.table.as_slice()
-    }
-
-    // Hands the table back, as `entries` tells it.
-    pub fn into_parts(self) -> Vec<u64>
-        ensures { AlphaTable (alpha_at self.table.items) result.items }
-    {
-        let Alpha { table } = self;
-        table
     }
 }

@@ -1,34 +1,18 @@
-ghost use Rattle.std.specs.Prelude.{◌≡◌, ℕ, ◌+◌, ◌*◌, ◌/◌, ◌%◌, ◌^◌, ◌<◌, ◌≤◌, true, false};
-ghost use Rattle.mapping.specs.Leaves.{Fit, OneOf, laid};
+ghost use Rattle.std.specs.Prelude.{◌≡◌, ℕ, ◌+◌, ◌*◌, ◌/◌, ◌%◌, ◌^◌, ◌<◌, ◌≤◌, ◌↔◌, Bool, IsTrue, MatchResult};
+ghost use Rattle.mapping.specs.Leaves.{Fit, laid};
 
-use crate::leaf::Leaf;
-use blocks::block::PageBlock;
-use blocks::number::FrameNumber;
+use crate::leaf::{Leaf, PutError};
+use blocks::block::ObjectBlock;
+use blocks::number::{FrameNumber, ObjectPage};
 
-// The leaf that a put asks for.
-pub(crate) fn asked(pages: PageBlock, frame: FrameNumber, writable: bool) -> Leaf
-    ensures { result ≡ laid pages frame writable }
+// Whether the page is one of the 1,024 of one of the four objects.
+pub(crate) fn in_range(page: ObjectPage) -> bool
+    ensures { IsTrue result ↔ (page.object < 4) × (page.number.0 < 1024) }
 {
-    Leaf {
-        first: pages.first(),
-        order: pages.order(),
-        frame,
-        writable,
-    }
+    page.object < 4 && page.number.0 < 1024
 }
 
-// Whether order is one of the sizes.
-fn one_of(sizes: &[u8], order: u8) -> bool
-    ensures yes { result ≡ true → OneOf sizes.now order }
-    ensures no { result ≡ false → OneOf sizes.now order → ⊥ }
-{
-    for size in sizes {
-        if *size == order {
-            return true;
-        }
-    }
-    false
-}
+// The two below are as those of an `AlignedBlock`, but for an order that was read from an entry: it cannot be refused.
 
 // How many pages a leaf of an order has.
 pub(crate) fn span(order: u8) -> u16
@@ -46,16 +30,34 @@ pub(crate) fn floor(number: u16, order: u8) -> u16
     number >> order << order
 }
 
-// Whether the hardware can hold a leaf at all.
-pub(crate) fn fits(sizes: &[u8], object: u8, leaf: Leaf) -> bool
-    requires { leaf.order ≤ 9 }
-    ensures yes { result ≡ true → Fit sizes.now object leaf }
-    ensures no { result ≡ false → Fit sizes.now object leaf → ⊥ }
+// Whether the hardware can hold a leaf there at all, writable or not.
+fn fits(sizes: &[u8], pages: ObjectBlock, frame: FrameNumber) -> bool
+    ensures { (writable : Bool) → (IsTrue result ↔ Fit sizes.now pages.object (laid pages.pages frame writable)) }
 {
-    let count = span(leaf.order);
-    one_of(sizes, leaf.order)
-        && leaf.frame.0 % count == 0
-        && object < 4
-        && leaf.first.0 <= 1024 - count
-        && leaf.frame.0 <= 2048 - count
+    let count = pages.pages.count();
+    sizes.contains(&pages.pages.order())
+        && frame.0 % count == 0
+        && pages.object < 4
+        && pages.pages.first().0 <= 1024 - count
+        && frame.0 <= 2048 - count
+}
+
+// The leaf that a put asks for, where the hardware can hold it.
+pub(crate) fn asked(
+    sizes: &[u8],
+    pages: ObjectBlock,
+    frame: FrameNumber,
+    writable: bool,
+) -> Result<Leaf, PutError>
+    ensures { let leaf = laid pages.pages frame writable in MatchResult result (λ l. (l ≡ leaf) × Fit sizes.now pages.object leaf) (λ e. (e ≡ PutError.Misfit) × (Fit sizes.now pages.object leaf → ⊥)) }
+{
+    if !fits(sizes, pages, frame) {
+        return Err(PutError::Misfit);
+    }
+    Ok(Leaf {
+        first: pages.pages.first(),
+        order: pages.pages.order(),
+        frame,
+        writable,
+    })
 }

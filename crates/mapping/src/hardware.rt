@@ -3,8 +3,8 @@ ghost use Rattle.mapping.specs.declared.leaf.Leaf.{Leaf};
 ghost use Rattle.mapping.specs.Leaves.{Lawful, Falling, Put, Clear, laid};
 
 use crate::leaf::{Leaf, NoLeaf, PutError};
-use blocks::block::PageBlock;
-use blocks::number::{FrameNumber, PageNumber};
+use blocks::block::ObjectBlock;
+use blocks::number::{FrameNumber, ObjectPage};
 
 // What a board's tables are made for.
 pub trait Geometry {
@@ -13,13 +13,11 @@ pub trait Geometry {
     // The orders that a leaf may have, greatest first. The last is 0.
     const SIZES: &'static [u8];
 
-    ghost bytes: { ℕ };
+    ghost PAGE_BYTES: { ℕ };
 
     ghost sizes: { List ℕ };
 
-    fn bytes_a_page() -> u32
-        ensures { result ≡ bytes };
-
+    // The sizes, for generic code: a ghost member cannot stand for a constant that is a slice.
     fn orders() -> &'static [u8]
         ensures { result.now ≡ sizes };
 }
@@ -30,24 +28,24 @@ pub trait MappingHardware: Geometry {
     ghost at: { Self → ℕ → ℕ → Option Leaf };
 
     // The leaf of a page; none outside the ranges.
-    fn leaf(&self, object: u8, page: PageNumber) -> Option<Leaf>
-        ensures { result ≡ at self.now object page.0 };
+    fn leaf(&self, page: ObjectPage) -> Option<Leaf>
+        ensures { result ≡ at self.now page.object page.number.0 };
 
-    // Lays a leaf on a block of pages; leaves wholly inside it go.
+    // Lays a leaf on a block of pages; leaves wholly inside it go. Not a `Leaf` is asked for, whose order may be any and whose
+    // pages need be no block.
     fn put(
         &mut self,
-        object: u8,
-        pages: PageBlock,
+        pages: ObjectBlock,
         frame: FrameNumber,
         writable: bool,
     ) -> Result<(), PutError>
-        ensures { Put Self.Geometry.sizes (at self.old) (at self.new) object (laid pages frame writable) result };
+        ensures { Put Self.Geometry.sizes (at self.old) (at self.new) pages.object (laid pages.pages frame writable) result };
 
     // Removes the whole leaf that covers a page, and tells its order.
-    fn clear(&mut self, object: u8, page: PageNumber) -> Result<u8, NoLeaf>
-        ensures { Clear (at self.old) (at self.new) object page.0 result };
+    fn clear(&mut self, page: ObjectPage) -> Result<u8, NoLeaf>
+        ensures { Clear (at self.old) (at self.new) page.object page.number.0 result };
 
-    ghost bounded: { Self.Geometry.bytes ≤ 65536 };
+    ghost bounded: { Self.Geometry.PAGE_BYTES ≤ 65536 };
 
     ghost falling: { Falling Self.Geometry.sizes };
 

@@ -1,11 +1,10 @@
 ghost use Rattle.std.specs.Prelude.{◌≡◌, ℕ};
-ghost use Rattle.mapping.specs.AlphaFormat.{AlphaTells, AlphaDetermines};
-ghost use Rattle.mapping.specs.Leaves.{LieApart, PutThenCleared, laid};
-ghost use Rattle.mapping.specs.Sv39Format.{Sv39Tells, Sv39Determines};
+ghost use Rattle.mapping.specs.Leaves.{LieApart, PutThenCleared, Tells, Determines, laid};
 
+use crate::board::Format;
 use crate::hardware::MappingHardware;
 use crate::leaf::PutError;
-use blocks::block::PageBlock;
+use blocks::block::ObjectBlock;
 use blocks::number::FrameNumber;
 
 // Two different leaves of one object never overlap, at any hardware.
@@ -16,26 +15,19 @@ pub fn leaves_lie_apart<H: MappingHardware>(hardware: &H)
 // Puts a leaf and clears it again. Where no leaf lay in the block, this changes nothing.
 pub fn put_then_clear<H: MappingHardware>(
     hardware: &mut H,
-    object: u8,
-    pages: PageBlock,
+    pages: ObjectBlock,
     frame: FrameNumber,
     writable: bool,
 ) -> Result<(), PutError>
-    ensures { PutThenCleared H.Geometry.sizes (H.MappingHardware.at hardware.old) (H.MappingHardware.at hardware.new) object (laid pages frame writable) result }
+    ensures { PutThenCleared H.Geometry.sizes (H.MappingHardware.at hardware.old) (H.MappingHardware.at hardware.new) pages.object (laid pages.pages frame writable) result }
 {
-    hardware.put(object, pages, frame, writable)?;
-    let _ = hardware.clear(object, pages.first());
+    hardware.put(pages, frame, writable)?;
+    let _ = hardware.clear(pages.first());
     Ok(())
 }
 
-// Alpha's entries determine the leaves: decoding is the inverse of encoding.
-pub fn alpha_entries_tell()
-    ensures tells { AlphaTells }
-    ensures determines { AlphaDetermines }
-{}
-
-// Sv39's entries determine the leaves too.
-pub fn sv39_entries_tell()
-    ensures tells { Sv39Tells }
-    ensures determines { Sv39Determines }
+// A board's entries determine the leaves: decoding is the inverse of encoding.
+pub fn entries_tell<B: Format>()
+    ensures tells { Tells B.Geometry.sizes B.Format.entry B.Format.tell }
+    ensures determines { Determines B.Geometry.sizes B.Format.entry B.Format.places }
 {}

@@ -1,15 +1,31 @@
-ghost use Rattle.std.specs.Prelude.{◌≡◌};
+ghost use Rattle.std.specs.Prelude.{◌≡◌, ◌+◌, ◌-◌, ◌^◌, ◌<◌, ◌≤◌, min};
 ghost use Rattle.mapping.specs.Leaves.{put_error_number, no_leaf_number};
 
 use blocks::number::{FrameNumber, PageNumber};
 
-// One table entry's worth of mapping: a block of pages on consecutive frames.
+// One table entry's worth of mapping: a block of pages on consecutive frames. Plain numbers: an entry may tell any.
 #[derive(Clone, Copy, PartialEq, Eq, Debug)]
 pub struct Leaf {
     pub first: PageNumber,
     pub order: u8,
     pub frame: FrameNumber,
     pub writable: bool,
+}
+
+impl Leaf {
+    // The frame of a page under it.
+    pub fn frame_of(self, page: PageNumber) -> FrameNumber
+        ensures { result.0 ≡ min (self.frame.0 + (page.0 - self.first.0)) (2 ^ 16 - 1) }
+    {
+        self.frame.beside(self.first, page)
+    }
+
+    // The page after its last.
+    pub fn end(self) -> PageNumber
+        ensures { self.order ≤ 9 → self.first.0 + 2 ^ self.order < 2 ^ 16 → result.0 ≡ self.first.0 + 2 ^ self.order }
+    {
+        PageNumber(self.first.0.saturating_add(1 << self.order.min(9)))
+    }
 }
 
 // Why a leaf was not put.
@@ -22,6 +38,7 @@ pub enum PutError {
 }
 
 impl PutError {
+    // A method of each error: see `BadBlock`.
     pub fn number(self) -> u8
         ensures { result ≡ put_error_number self }
     {
@@ -37,6 +54,7 @@ impl PutError {
 pub struct NoLeaf;
 
 impl NoLeaf {
+    // A method of each error: see `BadBlock`.
     pub fn number(self) -> u8
         ensures { result ≡ no_leaf_number }
     {

@@ -2,10 +2,10 @@
 #![tactic(auto)]
 
 pub mod alpha;
+pub mod board;
 pub mod client;
 mod fit;
 pub mod hardware;
 pub mod laws;
 pub mod leaf;
 pub mod sv39;
-mod table;

@@ -1,20 +1,17 @@
-use Rattle.std.proofs.Common.{◌^◌, ◌<◌, get_or, vec_items, sym, ap, ◌∙◌, subst, inl, inr, arith}
+use Rattle.std.proofs.Common.{◌+◌, ◌*◌, vec_items, sym, refl, ap, ◌∙◌, arith}
+use Rattle.std.proofs.lemmas.Bool.{true≢false}
 use Rattle.mapping.specs.AlphaFormat.{alpha_leaf}
-use Rattle.mapping.specs.AlphaLeaves.{at_in, at_object, at_page}
+use Rattle.mapping.specs.AlphaLeaves.{at_in, at_out}
+use Rattle.mapping.proofs.Rewritten.{read_at}
+use Rattle.mapping.proofs.AlphaState.{table_of}
 use Rattle.mapping.proofs.alpha.AlphaMappingHardware.leaf.Goals as goal
 
-pub returns-then-object-gt3 : goal.returns-then-object-gt3
-returns-then-object-gt3 c =
-    elim c.then-object-gt3.either [
-      | inl h ↦ sym (at_object _ _ _ (omega arith))
-      | inr h ↦ sym (at_page _ _ _ (omega (arith, h.1)))
-    ]
-
-pub decode-requires : goal.decode-requires
-decode-requires c = subst (λ x. x < 2 ^ 43) (sym c.read.ensures) (c.args.self.now.small _)
+pub returns-then-not-in_range : goal.returns-then-not-in_range
+returns-then-not-in_range c = sym (at_out _ _ _ (λ h. true≢false (sym (c.if-not-in_range.ensures.1 h))))
 
 pub returns : goal.returns
 returns c =
-    c.decode.ensures
-    ∙ ap (alpha_leaf c.args.page.0) (c.read.ensures ∙ ap (λ i. get_or (vec_items c.args.self.now.table) i 0) c.place.ensures)
-    ∙ sym (at_in _ _ _ (omega arith) (omega arith))
+    let r = c.if-not-in_range.ensures.0 refl in
+    let l = (table_of c.args.self.now).long in
+    let e = read_at (vec_items c.args.self.now.table) _ _ (c.args.page.object * 1024 + c.args.page.number.0) 4096 c.index-2.ensures c.index.ensures l (omega arith) in
+    c.decode.ensures ∙ ap (alpha_leaf c.args.page.number.0) e ∙ sym (at_in _ _ _ r.0 r.1)

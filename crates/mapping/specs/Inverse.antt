@@ -1,15 +1,12 @@
-use Rattle.std.proofs.Common.{◌≡◌, ℕ, ◌+◌, ◌-◌, ◌*◌, ◌/◌, ◌%◌, ◌^◌, ◌<◌, Bool, true, false, cond, Some, None, Option, sym, refl, ap, ◌∙◌, subst, inl, inr, arith}
-use Rattle.std.proofs.lemmas.Bool.{cases_Bool, cond-true, cond-false, eq-eqb, ne_eqb, lt-ltb, le-ltb}
+use Rattle.std.proofs.Common.{◌≡◌, ℕ, zero, suc, ◌+◌, ◌-◌, ◌*◌, ◌/◌, ◌%◌, ◌^◌, ◌<◌, Bool, true, false, cond, is_some, [], ◌∷◌, Some, None, Option, sym, refl, ap, ◌∙◌, subst, inl, inr, arith}
+use Rattle.std.proofs.lemmas.Bool.{cases_eq, cases_Bool, cond-true, cond-false, eq-eqb, ne_eqb, lt-ltb, le-ltb}
 use Rattle.mapping.specs.Told.{none_some, some_is}
 use Rattle.mapping.specs.declared.leaf.Leaf.{Leaf}
-use Rattle.mapping.specs.Leaves.{Leaves, AllLawful, lay}
-use Rattle.mapping.specs.AlphaFormat.{alpha_of, alpha_entry, alpha_leaf, alpha_word, AlphaTells, AlphaDetermines}
+use Rattle.mapping.specs.Leaves.{Leaves, AllLawful, Determines, lay}
+use Rattle.mapping.specs.AlphaFormat.{alpha_of, alpha_sizes, alpha_entry, alpha_leaf, alpha_word, AlphaTells, AlphaDetermines}
 use Rattle.mapping.specs.Sv39Format.{sv39_sizes, sv39_of, lower_of, upper_of, any_leaf, sv39_entry, sv39_leaf, sv39_word, walk, Sv39Tells, Sv39Determines}
-use Rattle.mapping.specs.AlphaLeaves.{leaf_none}
-use Rattle.mapping.proofs.AlphaCalls.{read_back, order_of}
-use Rattle.mapping.specs.Sv39Words.{leaf_not, leaf_is, walk_big, walk_small, word_leaf}
-use Rattle.mapping.proofs.Sv39Calls.{sized, leaf_word}
-use Rattle.mapping.proofs.Sv39Exact.{any_has}
+use Rattle.mapping.specs.AlphaLeaves.{leaf_none, read_back, order_of}
+use Rattle.mapping.specs.Sv39Words.{leaf_not, leaf_is, walk_big, walk_small, word_leaf, sized, leaf_word}
 
 -- Alpha: the entry in the two ways that it is written
 alpha_spelled : (f k : ℕ) (w : Bool) → f * 4294967296 + 4353 + 32 * (k / 3) + cond w 0 4 ≡ alpha_word f k (cond w 0 1)
@@ -35,6 +32,9 @@ alpha_tells at law o p a b =
 pub alpha_determines : AlphaDetermines
 alpha_determines at bt la lb o p a b e = sym (alpha_tells at la o p a b) ∙ ap (alpha_leaf p) e ∙ alpha_tells bt lb o p a b
 
+pub alpha_determines_places : Determines alpha_sizes alpha_entry (λ o p. (o * 1024 + p) ∷ [])
+alpha_determines_places at bt la lb o p a b e = alpha_determines at bt la lb o p a b (cc)
+
 -- Sv39
 sv39_spelled : (f : ℕ) (w : Bool) → f * 1024 + cond w 199 67 ≡ sv39_word f (cond w 1 0)
 unfolding sv39_word
@@ -48,6 +48,21 @@ of_tells : (l : Leaf) (f k : ℕ) → f ≡ l.first.0 → k ≡ l.order → sv39
 of_tells l f k a b =
     ap (sv39_leaf f k) (sv39_spelled l.frame.0 l.writable) ∙ leaf_is f k _ (word_leaf _ _) ∙ leaf_word f k l.frame.0 l.writable
     ∙ ap (λ x. Some (lay x k l.frame.0 l.writable)) a ∙ ap (λ x. Some (lay l.first.0 x l.frame.0 l.writable)) b
+
+-- a page with a leaf is found among those around it
+pub any_has : (at : Leaves) (o p n d : ℕ) (l : Leaf) → d < n → at o (p + d) ≡ Some l → any_leaf at o p n ≡ true
+unfolding any_leaf
+any_has at o p zero d l h e = absurd (omega arith)
+any_has at o p (suc n) d l h e =
+    elim (cases_eq d n) [
+      | inl q ↦ cond-true _ true _ (ap is_some (ap (λ x. at o (p + x)) (sym q) ∙ e))
+      | inr q ↦
+          let i : d < n = omega arith in
+          elim (cases_Bool (is_some (at o (p + n)))) [
+            | inl b ↦ cond-true _ true _ b
+            | inr b ↦ cond-false _ true _ b ∙ any_has at o p n d l i e
+          ]
+    ]
 
 module _ (at : Leaves) (law : AllLawful sv39_sizes at) (o p : ℕ) (a : o < 4) (b : p < 1024) where
   upper_is : sv39_entry at (o * 2 + p / 512) ≡ upper_of (o * 2 + p / 512) (at o (p / 512 * 512)) (any_leaf at o (p / 512 * 512) 512)
@@ -124,3 +139,6 @@ pub sv39_determines : Sv39Determines
 sv39_determines at bt la lb o p a b u v =
     sym (sv39_tells at la o p a b) ∙ ap (λ x. walk x (sv39_entry at (8 + o * 1024 + p)) p) u
     ∙ ap (λ x. walk (sv39_entry bt (o * 2 + p / 512)) x p) v ∙ sv39_tells bt lb o p a b
+
+pub sv39_determines_places : Determines sv39_sizes sv39_entry (λ o p. (o * 2 + p / 512) ∷ (8 + o * 1024 + p) ∷ [])
+sv39_determines_places at bt la lb o p a b e = sv39_determines at bt la lb o p a b (cc) (cc)

@@ -2,85 +2,61 @@
 ghost use Rattle.page_machine.specs.ClaimLaws.{Marking, Unmarking, Aging, Adding, FillingUp, Breaking, GivingBack, TakingOne, GivingOne, EmptyBlocksTile, WorkedEmpty, CountsAddUp};
 
 // An absent page of a reservation comes in.
-pub fn marking() -> u8
+pub fn marking()
     ensures { Marking }
-{
-    0
-}
+{}
 
 // A page of a reservation goes.
-pub fn unmarking() -> u8
+pub fn unmarking()
     ensures { Unmarking }
-{
-    0
-}
+{}
 
 // A reservation becomes the youngest.
-pub fn aging() -> u8
+pub fn aging()
     ensures { Aging }
-{
-    0
-}
+{}
 
 // A new reservation.
-pub fn adding() -> u8
+pub fn adding()
     ensures { Adding }
-{
-    0
-}
+{}
 
 // A full reservation leaves the table.
-pub fn filling_up() -> u8
+pub fn filling_up()
     ensures { FillingUp }
-{
-    0
-}
+{}
 
 // A reservation is broken.
-pub fn breaking() -> u8
+pub fn breaking()
     ensures { Breaking }
-{
-    0
-}
+{}
 
 // A reservation without a present page is given back.
-pub fn giving_back() -> u8
+pub fn giving_back()
     ensures { GivingBack }
-{
-    0
-}
+{}
 
 // A page comes in, in a frame of its own.
-pub fn taking_one() -> u8
+pub fn taking_one()
     ensures { TakingOne }
-{
-    0
-}
+{}
 
 // A page goes with the frame of its own.
-pub fn giving_one() -> u8
+pub fn giving_one()
     ensures { GivingOne }
-{
-    0
-}
+{}
 
 // The blocks in which empty frames go back are blocks, rise, and tile exactly the empty frames.
-pub fn empty_blocks_tile() -> u8
+pub fn empty_blocks_tile()
     ensures { EmptyBlocksTile }
-{
-    0
-}
+{}
 
 // Of eight frames all but the second go back.
-pub fn worked_empty() -> u8
+pub fn worked_empty()
     ensures { WorkedEmpty }
-{
-    0
-}
+{}
 
 // Present pages, empty reserved frames and available frames add up to the limit.
-pub fn counts_add_up() -> u8
+pub fn counts_add_up()
     ensures { CountsAddUp }
-{
-    0
-}
+{}

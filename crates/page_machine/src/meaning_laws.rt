@@ -2,64 +2,46 @@
 ghost use Rattle.page_machine.specs.MeaningLaws.{CountsPresent, BringsInIfRoom, NowhereIfFull, BringsInPage, StoresToPage, ReleasesPage, FlushesObject, ClosesObject, OpensObject};
 
 // The machine counts the pages that are present.
-pub fn counts_present() -> u8
+pub fn counts_present()
     ensures { CountsPresent }
-{
-    0
-}
+{}
 
 // A page is brought in only where the machine has room for it ..
-pub fn brings_in_if_room() -> u8
+pub fn brings_in_if_room()
     ensures { BringsInIfRoom }
-{
-    0
-}
+{}
 
 // .. and refused only where it has none.
-pub fn nowhere_if_full() -> u8
+pub fn nowhere_if_full()
     ensures { NowhereIfFull }
-{
-    0
-}
+{}
 
 // A page brought in changes that page alone.
-pub fn brings_in_page() -> u8
+pub fn brings_in_page()
     ensures { BringsInPage }
-{
-    0
-}
+{}
 
 // A store to a page that is present changes that page alone.
-pub fn stores_to_page() -> u8
+pub fn stores_to_page()
     ensures { StoresToPage }
-{
-    0
-}
+{}
 
 // A release changes that page alone.
-pub fn releases_page() -> u8
+pub fn releases_page()
     ensures { ReleasesPage }
-{
-    0
-}
+{}
 
 // A flush removes the marks of the object's pages.
-pub fn flushes_object() -> u8
+pub fn flushes_object()
     ensures { FlushesObject }
-{
-    0
-}
+{}
 
 // A close lets all pages of the object go.
-pub fn closes_object() -> u8
+pub fn closes_object()
     ensures { ClosesObject }
-{
-    0
-}
+{}
 
 // An open gives the object its size.
-pub fn opens_object() -> u8
+pub fn opens_object()
     ensures { OpensObject }
-{
-    0
-}
+{}

@@ -2,15 +2,11 @@
 ghost use Rattle.page_machine.specs.TellingLaws.{AlikeReplyAlike, UnlikeReplyUnlike};
 
 // Machines alike in words and limit reply alike to every list of calls.
-pub fn alike_reply_alike() -> u8
+pub fn alike_reply_alike()
     ensures { AlikeReplyAlike }
-{
-    0
-}
+{}
 
 // Machines unlike in words or limit reply unlike to some list of calls.
-pub fn unlike_reply_unlike() -> u8
+pub fn unlike_reply_unlike()
     ensures { UnlikeReplyUnlike }
-{
-    0
-}
+{}

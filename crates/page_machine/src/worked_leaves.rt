@@ -2,15 +2,11 @@
 ghost use Rattle.page_machine.specs.WorkedLeaves.{Superpage, Split};
 
 // Eight pages make a superpage, and a store splits it.
-pub fn superpage() -> u8
+pub fn superpage()
     ensures { Superpage }
-{
-    0
-}
+{}
 
 // A store into one page of a leaf of order 6.
-pub fn split() -> u8
+pub fn split()
     ensures { Split }
-{
-    0
-}
+{}

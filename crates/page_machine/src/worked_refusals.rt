@@ -2,57 +2,41 @@
 ghost use Rattle.page_machine.specs.WorkedRefusals.{StartOrder, OpenOrder, LoadOrder, StoreOrder, ReleaseOrder, FlushOrder, CloseOrder, QuestionOrder};
 
 // 1, 2
-pub fn start_order() -> u8
+pub fn start_order()
     ensures { StartOrder }
-{
-    0
-}
+{}
 
 // 3, 4, 5
-pub fn open_order() -> u8
+pub fn open_order()
     ensures { OpenOrder }
-{
-    0
-}
+{}
 
 // 2, 3, 6, 7, 8, 11
-pub fn load_order() -> u8
+pub fn load_order()
     ensures { LoadOrder }
-{
-    0
-}
+{}
 
 // 2, 3, 6, 7, 8, 11
-pub fn store_order() -> u8
+pub fn store_order()
     ensures { StoreOrder }
-{
-    0
-}
+{}
 
 // 3, 6, 7, 9
-pub fn release_order() -> u8
+pub fn release_order()
     ensures { ReleaseOrder }
-{
-    0
-}
+{}
 
 // 3, 6, 10
-pub fn flush_order() -> u8
+pub fn flush_order()
     ensures { FlushOrder }
-{
-    0
-}
+{}
 
 // 3, 6
-pub fn close_order() -> u8
+pub fn close_order()
     ensures { CloseOrder }
-{
-    0
-}
+{}
 
 // 3, 6, 7
-pub fn question_order() -> u8
+pub fn question_order()
     ensures { QuestionOrder }
-{
-    0
-}
+{}

@@ -2,15 +2,11 @@
 ghost use Rattle.page_machine.specs.WorkedRuns.{LimitZero, EveryCall};
 
 // With limit 0 the first load is refused by 11.
-pub fn limit_zero() -> u8
+pub fn limit_zero()
     ensures { LimitZero }
-{
-    0
-}
+{}
 
 // Every call, with two flushes.
-pub fn every_call() -> u8
+pub fn every_call()
     ensures { EveryCall }
-{
-    0
-}
+{}

@@ -7,6 +7,10 @@ use Rattle.reservations.specs.declared.reservation.Reservation.{Reservation}
 abbrev pub block_size : Reservation → ℕ
 block_size r = cond (nat_le r.order 9) (2 ^ r.order) 0
 
+-- how far a page lies behind its first page, 0 before it
+abbrev pub distance : Reservation → (page : ℕ) → ℕ
+distance r page = page - r.first.0
+
 -- whether a page is one of its pages
 abbrev pub covers : Reservation → (object page : ℕ) → Bool
 covers r object page = r.object == object && (nat_le r.first.0 page && nat_lt (page - r.first.0) (block_size r))

@@ -1,41 +1,45 @@
-use Rattle.std.proofs.Common.{◌≡◌, ℕ, zero, suc, ◌+◌, ◌<◌, ◌≤◌, ◌≢◌, true, false, cond, List, [], ◌∷◌, ◌++◌, append-nil, length, take, set, get_or, length-set, get_or-set_other, sym, ap, ◌∙◌, Some, None, Option, refl, inl, inr, add-one, arith}
+use Rattle.std.proofs.Common.{◌≡◌, ℕ, zero, suc, ◌+◌, ◌<◌, ◌≤◌, ◌≢◌, true, false, List, [], ◌∷◌, ◌++◌, append-nil, length, length-append, take, set, get_or, length-set, get_or-set_other, sym, ap, ◌∙◌, Some, None, Option, refl, add-one, arith}
 use Rattle.std.proofs.Math.Seq.{take-suc-set}
-use Rattle.std.proofs.lemmas.Bool.{cases_lt}
+use Rattle.std.specs.List.{range_with_len, filter}
+use Rattle.std.proofs.lemmas.List.Sums.{length-filter, count_by-le-length}
+use Rattle.std.proofs.lemmas.List.Elements.{filter-append}
+use Rattle.std.proofs.lemmas.List.FromFn.{length-range_with_len}
 use Rattle.mapping.specs.Leaves.{Leaves, Lawful}
 use Rattle.mapping.specs.declared.leaf.Leaf.{Leaf}
 use Rattle.manager.specs.Arguments.{is_stored, stored_below, stored_pages}
 
--- no more pages are stored than there are
+-- one number more
+range_more : (a n : ℕ) → range_with_len a (suc n) ≡ range_with_len a n ++ (a + n) ∷ []
+range_more a zero = let e : a ≡ a + 0 = omega arith in ap (λ x. x ∷ []) e
+range_more a (suc n) = let e : a + 1 + n ≡ a + suc n = omega arith in ap (λ xs. a ∷ xs) (range_more (a + 1) n ∙ ap (λ x. range_with_len (a + 1) n ++ x ∷ []) e)
+
+-- as many are stored as are listed, and no more than there are
+pub stored_is : (at : ℕ → Option Leaf) (n : ℕ) → length (stored_pages at n) ≡ stored_below at n
+stored_is at n = length-filter (λ page. is_stored (at page)) (range_with_len 0 n)
+
 pub stored_few : (at : ℕ → Option Leaf) (n : ℕ) → stored_below at n ≤ n
-unfolding stored_below
-stored_few at zero = omega arith
-stored_few at (suc n) = let h = stored_few at n in elim (is_stored (at n)) as (λ b. cond b 1 0 + stored_below at n ≤ suc n) [ true ↦ omega arith | false ↦ omega arith ]
-
--- the count of one page more
-pub stored_none : (at : ℕ → Option Leaf) → stored_below at 0 ≡ 0
-unfolding stored_below
-stored_none at = refl
-
-pub stored_more : (at : ℕ → Option Leaf) (n : ℕ) → is_stored (at n) ≡ true → stored_below at (n + 1) ≡ stored_below at n + 1
-unfolding stored_below
-stored_more at n e = rw (add-one, e) (omega arith)
-
-pub stored_same : (at : ℕ → Option Leaf) (n : ℕ) → is_stored (at n) ≡ false → stored_below at (n + 1) ≡ stored_below at n
-unfolding stored_below
-stored_same at n e = rw (add-one, e) (omega arith)
+stored_few at n = omega (arith, count_by-le-length (λ page. is_stored (at page)) (range_with_len 0 n), length-range_with_len 0 n)
 
 -- the list of one page more
-pub listed_none : (at : ℕ → Option Leaf) → stored_pages at 0 ≡ []
-unfolding stored_pages
-listed_none at = refl
+listed_one : (at : ℕ → Option Leaf) (n : ℕ) → stored_pages at (n + 1) ≡ stored_pages at n ++ filter (λ page. is_stored (at page)) (n ∷ [])
+listed_one at n =
+    let e : n + 1 ≡ suc n = omega arith in
+    let z : 0 + n ≡ n = omega arith in
+    ap (λ x. filter (λ page. is_stored (at page)) (range_with_len 0 x)) e
+    ∙ ap (filter (λ page. is_stored (at page))) (range_more 0 n ∙ ap (λ x. range_with_len 0 n ++ x ∷ []) z)
+    ∙ filter-append (λ page. is_stored (at page)) (range_with_len 0 n) (n ∷ [])
 
 pub listed_more : (at : ℕ → Option Leaf) (n : ℕ) → is_stored (at n) ≡ true → stored_pages at (n + 1) ≡ stored_pages at n ++ (n ∷ [])
-unfolding stored_pages
-listed_more at n e = rw (add-one, e) refl
+listed_more at n e = listed_one at n ∙ ap (λ ys. stored_pages at n ++ ys) (rw e refl)
 
 pub listed_same : (at : ℕ → Option Leaf) (n : ℕ) → is_stored (at n) ≡ false → stored_pages at (n + 1) ≡ stored_pages at n
-unfolding stored_pages
-listed_same at n e = rw (add-one, e, append-nil) refl
+listed_same at n e = listed_one at n ∙ ap (λ ys. stored_pages at n ++ ys) {y = []} (rw e refl) ∙ append-nil (stored_pages at n)
+
+pub stored_more : (at : ℕ → Option Leaf) (n : ℕ) → is_stored (at n) ≡ true → stored_below at (n + 1) ≡ stored_below at n + 1
+stored_more at n e = omega (arith, stored_is at n, stored_is at (n + 1), ap length (listed_more at n e), length-append (stored_pages at n) (n ∷ []))
+
+pub stored_same : (at : ℕ → Option Leaf) (n : ℕ) → is_stored (at n) ≡ false → stored_below at (n + 1) ≡ stored_below at n
+stored_same at n e = omega (arith, stored_is at n, stored_is at (n + 1), ap length (listed_same at n e))
 
 -- a list over `old` into whose first `count` places the stored ones of the first n pages were written, as far as it reaches
 pub record Listed (at : ℕ → Option Leaf) (n : ℕ) (old xs : List ℕ) (count : ℕ) : Type 0 where
@@ -87,16 +91,6 @@ listed_skip at n old xs count h e =
       listed = λ r. h.listed (omega (arith, s, r)) ∙ sym (listed_same at n e);
       later = h.later;
     }
-
--- more pages, no fewer stored
-pub stored_rises : (at : ℕ → Option Leaf) (n m : ℕ) → n ≤ m → stored_below at n ≤ stored_below at m
-unfolding stored_below
-stored_rises at n zero l = let e : n ≡ 0 = omega arith in rw e (omega arith)
-stored_rises at n (suc m) l =
-    elim (cases_lt n (suc m)) [
-      | inl h ↦ let r = stored_rises at n m (omega arith) in omega arith
-      | inr h ↦ let e : n ≡ suc m = omega arith in rw e (omega arith)
-    ]
 
 -- past the last object there is no leaf
 pub no_object : (sizes : List ℕ) (at : Leaves) (o p : ℕ) → ((l : Leaf) → at o p ≡ Some l → Lawful sizes at o p l) → 4 ≤ o → at o p ≡ None

@@ -1,2 +1,3 @@
-pub mod Refusals
 pub mod Arguments
+pub mod Present
+pub mod Refusals

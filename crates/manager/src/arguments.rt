@@ -1,9 +1,9 @@
-ghost use Rattle.std.specs.Prelude.{◌≡◌, ℕ, ◌+◌, ◌*◌, ◌^◌, ◌<◌, ◌≤◌, length, slice_index};
-ghost use Rattle.manager.specs.Arguments.{Decides, or_else, wrong_memory, wrong_number, wrong_object, wrong_page, wrong_word};
+ghost use Rattle.std.specs.Prelude.{◌≡◌, ℕ, ◌+◌, ◌*◌, ◌^◌, ◌<◌, ◌≤◌, length, Some};
+ghost use Rattle.manager.specs.Arguments.{Decides, size_in, wrong_access, wrong_memory, wrong_number, wrong_object, wrong_page, wrong_word};
 
 use crate::refusal::Refusal;
 use crate::state::Manager;
-use blocks::number::PageNumber;
+use blocks::number::ObjectPage;
 use frames::source::FrameSource;
 use mapping::hardware::MappingHardware;
 
@@ -11,17 +11,17 @@ use mapping::hardware::MappingHardware;
 impl<S: FrameSource + Drop, H: MappingHardware + Drop> Manager<S, H> {
     // The frame memory has the words of every frame.
     pub(crate) fn check_memory(&self, memory: &[u32]) -> Result<(), Refusal>
-        ensures { Decides (wrong_memory self.now.words_a_page (S.FrameSource.means self.now.source).total (length memory.now)) result (λ _. Unit {0}) }
+        ensures { Decides (wrong_memory self.now.words_a_page.0 (S.FrameSource.means self.now.source).total (length memory.now)) result (λ _. Unit {0}) }
     {
-        if memory.len() != self.source.frames() as usize * self.words_a_page as usize {
+        if memory.len() != self.words_a_page.of_frames(self.source.frames()) {
             return Err(Refusal::BadMemory);
         }
         Ok(())
     }
 
-    // The size of an object that has this number, 0 where it is closed.
-    pub(crate) fn size_of(&self, object: u8) -> Result<u16, Refusal>
-        ensures { Decides (wrong_number object) result (λ size. (object < 4) × (size ≡ slice_index self.now.sizes object)) }
+    // The size of an object that has this number, none where it is closed.
+    pub(crate) fn size_of(&self, object: u8) -> Result<Option<u16>, Refusal>
+        ensures { Decides (wrong_number object) result (λ size. (object < 4) × (size ≡ size_in self.now.sizes object)) }
     {
         if object > 3 {
             return Err(Refusal::BadObject);
@@ -31,37 +31,28 @@ impl<S: FrameSource + Drop, H: MappingHardware + Drop> Manager<S, H> {
 
     // The size of an open object.
     pub(crate) fn open_size(&self, object: u8) -> Result<u16, Refusal>
-        ensures { Decides (wrong_object self.now.sizes object) result (λ size. size ≡ slice_index self.now.sizes object) }
+        ensures { Decides (wrong_object self.now.sizes object) result (λ size. size_in self.now.sizes object ≡ Some size) }
     {
-        let size = self.size_of(object)?;
-        if size == 0 {
-            return Err(Refusal::NotOpen);
-        }
-        Ok(size)
+        self.size_of(object)?.ok_or(Refusal::NotOpen)
     }
 
-    // The object's size, of which the page is one.
-    pub(crate) fn size_at(&self, object: u8, page: PageNumber) -> Result<u16, Refusal>
-        ensures { Decides (wrong_page self.now.sizes object page.0) result (λ size. size ≡ slice_index self.now.sizes object) }
+    // The size of the object that a page is one of.
+    pub(crate) fn size_at(&self, page: ObjectPage) -> Result<u16, Refusal>
+        ensures { Decides (wrong_page self.now.sizes page.object page.number.0) result (λ size. size_in self.now.sizes page.object ≡ Some size) }
     {
-        let size = self.open_size(object)?;
-        if page.0 >= size {
+        let size = self.open_size(page.object)?;
+        if page.number.0 >= size {
             return Err(Refusal::PagePastSize);
         }
         Ok(size)
     }
 
-    // The object's size, of which the page is one, and the word is one of the page.
-    pub(crate) fn size_at_word(
-        &self,
-        object: u8,
-        page: PageNumber,
-        word: u16,
-    ) -> Result<u16, Refusal>
-        ensures { Decides (wrong_word self.now.sizes self.now.words_a_page object page.0 word) result (λ size. size ≡ slice_index self.now.sizes object) }
+    // The same, where the word is one of the page.
+    pub(crate) fn size_at_word(&self, page: ObjectPage, word: u16) -> Result<u16, Refusal>
+        ensures { Decides (wrong_word self.now.sizes self.now.words_a_page.0 page.object page.number.0 word) result (λ size. size_in self.now.sizes page.object ≡ Some size) }
     {
-        let size = self.size_at(object, page)?;
-        if word >= self.words_a_page {
+        let size = self.size_at(page)?;
+        if word >= self.words_a_page.0 {
             return Err(Refusal::WordPastPage);
         }
         Ok(size)
@@ -71,13 +62,12 @@ impl<S: FrameSource + Drop, H: MappingHardware + Drop> Manager<S, H> {
     pub(crate) fn check_word(
         &self,
         memory: &[u32],
-        object: u8,
-        page: PageNumber,
+        page: ObjectPage,
         word: u16,
     ) -> Result<u16, Refusal>
-        ensures { Decides (or_else (wrong_memory self.now.words_a_page (S.FrameSource.means self.now.source).total (length memory.now)) (wrong_word self.now.sizes self.now.words_a_page object page.0 word)) result (λ size. size ≡ slice_index self.now.sizes object) }
+        ensures { Decides (wrong_access self.now.words_a_page.0 (S.FrameSource.means self.now.source).total (length memory.now) self.now.sizes page.object page.number.0 word) result (λ size. size_in self.now.sizes page.object ≡ Some size) }
     {
         self.check_memory(memory)?;
-        self.size_at_word(object, page, word)
+        self.size_at_word(page, word)
     }
 }

@@ -1,8 +1,7 @@
-use crate::leaves::{Home, Marks};
+use crate::leaves::Home;
 use crate::refusal::Refusal;
 use crate::state::Manager;
-use crate::words;
-use blocks::number::{FrameNumber, PageNumber};
+use blocks::number::{FrameNumber, ObjectPage};
 use frames::source::FrameSource;
 use mapping::hardware::MappingHardware;
 
@@ -11,21 +10,19 @@ impl<S: FrameSource + Drop, H: MappingHardware + Drop> Manager<S, H> {
     pub(crate) fn bring_in(
         &mut self,
         memory: &mut [u32],
-        object: u8,
-        page: PageNumber,
+        page: ObjectPage,
         size: u16,
         writable: bool,
     ) -> Result<FrameNumber, Refusal> {
-        let frame = self.choose_frame(object, page, size)?;
-        self.present.mark(object, page);
+        let frame = self.choose_frame(page, size)?;
+        self.present.mark(page, true);
         let home = Home {
-            object,
             page,
             frame,
-            marks: Marks::Same(writable),
+            mark: Some(writable),
         };
         self.lay(home, self.leaf_block(home)?, writable)?;
-        words::zero_page(memory, frame, self.words_a_page);
+        self.words_a_page.zero_page(memory, frame);
         Ok(frame)
     }
 }

@@ -1,9 +1,9 @@
-ghost use Rattle.std.specs.Prelude.{◌≡◌, ℕ, ◌+◌, ◌<◌, ◌≤◌, OnOk};
+ghost use Rattle.std.specs.Prelude.{◌≡◌, ℕ, ◌+◌, ◌<◌, ◌≤◌, OnOk, length};
 
 use crate::refusal::Refusal;
 use crate::state::Manager;
 use blocks::block::FrameBlock;
-use blocks::number::{FrameNumber, PageNumber};
+use blocks::number::{FrameNumber, ObjectPage};
 use frames::refusal::GiveError;
 use frames::source::FrameSource;
 use mapping::hardware::MappingHardware;
@@ -18,21 +18,19 @@ fn give_unused<S: FrameSource>(
     if reservation.is_unused(frames) {
         return source.give(frames);
     }
-    let Some(halves) = frames.halves() else {
+    let Some((low, high)) = frames.halves() else {
         return Ok(());
     };
-    give_unused(source, reservation, halves.0)?;
-    give_unused(source, reservation, halves.1)
+    give_unused(source, reservation, low)?;
+    give_unused(source, reservation, high)
 }
 
 impl<S: FrameSource + Drop, H: MappingHardware + Drop> Manager<S, H> {
     // Breaks the oldest reservation: its present pages stay where they are, and its empty frames go back.
     pub(crate) fn break_oldest(&mut self) -> Result<(), Refusal>
-        ensures { OnOk result (self.new.reserved.count + 1 ≤ self.old.reserved.count) }
+        ensures { OnOk result (length self.new.reserved + 1 ≤ length self.old.reserved) }
     {
-        let Some(oldest) = self.reserved.oldest() else {
-            return Err(Refusal::Block);
-        };
+        let oldest = self.reserved.oldest().ok_or(Refusal::Block)?;
         give_unused(&mut self.source, &oldest, oldest.frames()?)?;
         self.reserved.remove(0);
         Ok(())
@@ -42,18 +40,17 @@ impl<S: FrameSource + Drop, H: MappingHardware + Drop> Manager<S, H> {
     // none of its pages is present, else to the source.
     pub(crate) fn give_frame(
         &mut self,
-        object: u8,
-        page: PageNumber,
+        page: ObjectPage,
         frame: FrameNumber,
     ) -> Result<(), Refusal> {
-        let Some(place) = self.reserved.find(object, page) else {
+        let Some(place) = self.reserved.find(page) else {
             self.source.give(FrameBlock::new(frame, 0)?)?;
             return Ok(());
         };
         let Some(reservation) = self.reserved.get(place) else {
             return Ok(());
         };
-        let left = reservation.without(page);
+        let left = reservation.marked(page.number, false);
         if left.present() > 0 {
             self.reserved.replace(place, left);
             return Ok(());

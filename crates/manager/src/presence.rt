@@ -1,23 +1,16 @@
-ghost use Rattle.std.specs.Prelude.{◌≡◌, ℕ, ◌+◌, ◌*◌, ◌%◌, ◌^◌, ◌<◌, ◌≤◌, true, false, length, ◌≢◌};
+ghost use Rattle.std.specs.Prelude.{◌≡◌, ℕ, ◌+◌, ◌*◌, ◌%◌, ◌^◌, ◌<◌, ◌≤◌, ◌&&◌, true, false, length, ◌≢◌, nat_lt};
 ghost use Rattle.blocks.specs.Bit.{bit, bits_set};
+ghost use Rattle.manager.specs.Present.{BlockIs};
 
 use blocks::bits;
-use blocks::block::PageBlock;
-use blocks::number::PageNumber;
+use blocks::block::ObjectBlock;
+use blocks::number::ObjectPage;
 
 // Which pages of the four objects are present, 1,024 bits for each object: whether a block is wholly present, or
 // wholly absent, is told by a few words.
 #[derive(Drop)]
 pub struct Presence {
     words: [u64; 64],
-    ghost long: { length words ≡ 64 },
-}
-
-// The place of a page's bit.
-fn place_of(object: u8, page: PageNumber) -> usize
-    ensures { result ≡ object * 1024 + page.0 }
-{
-    object as usize * 1024 + page.0 as usize
 }
 
 impl Presence {
@@ -27,41 +20,31 @@ impl Presence {
         Presence { words: [0; 64] }
     }
 
-    pub fn mark(&mut self, object: u8, page: PageNumber)
-        ensures here { object < 4 → page.0 < 1024 → bit self.new.words (object * 1024 + page.0) ≡ true }
-        ensures others { (j : ℕ) → (j ≢ object * 1024 + page.0) → bit self.new.words j ≡ bit self.old.words j }
+    pub fn mark(&mut self, page: ObjectPage, present: bool)
+        ensures here { bit self.new.words (page.object * 1024 + page.number.0) ≡ (present && nat_lt (page.object * 1024 + page.number.0) 4096) }
+        ensures others { (j : ℕ) → (j ≢ page.object * 1024 + page.number.0) → bit self.new.words j ≡ bit self.old.words j }
     {
-        bits::set(&mut self.words, place_of(object, page));
-    }
-
-    pub fn unmark(&mut self, object: u8, page: PageNumber)
-        ensures here { bit self.new.words (object * 1024 + page.0) ≡ false }
-        ensures others { (j : ℕ) → (j ≢ object * 1024 + page.0) → bit self.new.words j ≡ bit self.old.words j }
-    {
-        bits::clear(&mut self.words, place_of(object, page));
+        bits::set(&mut self.words, page.index(), present);
     }
 
     // Whether a page of the block is present.
-    pub fn any(&self, object: u8, pages: PageBlock) -> bool
-        ensures no { result ≡ false → (j : ℕ) → object * 1024 + pages.block.first ≤ j → j < object * 1024 + pages.block.first + 2 ^ pages.block.order → bit self.now.words j ≡ false }
-        ensures yes { result ≡ true → ((j : ℕ) → object * 1024 + pages.block.first ≤ j → j < object * 1024 + pages.block.first + 2 ^ pages.block.order → bit self.now.words j ≡ false) → ⊥ }
+    pub fn any(&self, block: ObjectBlock) -> bool
+        ensures no { result ≡ false → BlockIs self.now.words block false }
+        ensures yes { result ≡ true → BlockIs self.now.words block false → ⊥ }
     {
-        let from = place_of(object, pages.first());
-        match bits::first_in(&self.words, from, from + pages.count() as usize) {
-            Some(_) => true,
-            None => false,
-        }
+        let from = block.first().index();
+        bits::first_in(&self.words, from, from + usize::from(block.pages.count())).is_some()
     }
 
     // Whether all pages of the block are present.
-    pub fn all(&self, object: u8, pages: PageBlock) -> bool
-        ensures yes { result ≡ true → (j : ℕ) → object * 1024 + pages.block.first ≤ j → j < object * 1024 + pages.block.first + 2 ^ pages.block.order → bit self.now.words j ≡ true }
-        ensures no { result ≡ false → ((j : ℕ) → object * 1024 + pages.block.first ≤ j → j < object * 1024 + pages.block.first + 2 ^ pages.block.order → bit self.now.words j ≡ true) → ⊥ }
+    pub fn all(&self, block: ObjectBlock) -> bool
+        ensures yes { result ≡ true → BlockIs self.now.words block true }
+        ensures no { result ≡ false → BlockIs self.now.words block true → ⊥ }
     {
-        let from = place_of(object, pages.first());
-        for at in (from..from + pages.count() as usize).step_by(64) {
-            let wanted = pages.count().min(64);
-            if !all_in_word(&self.words, at, wanted) {
+        let from = block.first().index();
+        let count = block.pages.count();
+        for at in (from..from + usize::from(count)).step_by(64) {
+            if !all_in_word(&self.words, at, count.min(64)) {
                 return false;
             }
         }

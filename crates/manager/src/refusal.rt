@@ -4,12 +4,12 @@ ghost use Rattle.manager.specs.declared.refusal.Refusal.TheVariants.{NoFrame, Bl
 ghost use Rattle.frames.specs.declared.refusal.TakeError.TheVariants.{BadOrder, NoBlock};
 
 use blocks::aligned::BadBlock;
-use blocks::number::PageNumber;
+use blocks::number::ObjectPage;
 use frames::refusal::{GiveError, TakeError};
 use mapping::leaf::{NoLeaf, PutError};
 
 // Why a call was refused. The last four come from below, where a source or a board says what its meaning rules out.
-#[derive(Clone, Copy)]
+#[derive(Clone, Copy, PartialEq, Eq, Debug)]
 pub enum Refusal {
     // The words a page are no power of two from 1 to 2,048.
     BadWords,
@@ -27,11 +27,7 @@ pub enum Refusal {
     // The list is shorter than the stored pages are many.
     ShortList,
     // No frame for a page; the depth is the source's.
-    NoFrame {
-        object: u8,
-        page: PageNumber,
-        depth: u8,
-    },
+    NoFrame { page: ObjectPage, depth: u8 },
     Block,
     Give(GiveError),
     Put(PutError),
@@ -39,6 +35,7 @@ pub enum Refusal {
 }
 
 impl Refusal {
+    // A method of each error: see `BadBlock`.
     pub fn number(self) -> u8
         ensures { result ≡ number_of self }
     {
@@ -62,37 +59,21 @@ impl Refusal {
     }
 }
 
-// What went wrong while a page was brought in, with the page.
-#[derive(Clone, Copy)]
-pub struct At<E> {
-    pub object: u8,
-    pub page: PageNumber,
+// What went wrong, and where: at a page of an object, or at a record of a trace.
+#[derive(Clone, Copy, PartialEq, Eq, Debug)]
+pub struct Placed<P, E> {
+    pub place: P,
     pub cause: E,
 }
 
-// The same result, its error placed at a page.
-pub fn placed_at<T, E: Drop>(res: Result<T, E>, object: u8, page: PageNumber) -> Result<T, At<E>>
-    ensures { elim res [ Ok value ↦ result ≡ Ok value | Err cause ↦ result ≡ Err (record { object = object; page = page; cause = cause }) ] }
-{
-    match res {
-        Ok(value) => Ok(value),
-        Err(cause) => Err(At {
-            object,
-            page,
-            cause,
-        }),
-    }
-}
+impl From<Placed<ObjectPage, TakeError>> for Refusal {
+    ghost from_gives = { λ e r. elim e.cause [ BadOrder ↦ r ≡ Block | NoBlock depth ↦ r ≡ NoFrame e.place depth ] };
 
-impl From<At<TakeError>> for Refusal {
-    ghost from_gives = { λ e r. elim e.cause [ BadOrder ↦ r ≡ Block | NoBlock depth ↦ r ≡ NoFrame e.object e.page depth ] };
-
-    fn from(e: At<TakeError>) -> Refusal {
+    fn from(e: Placed<ObjectPage, TakeError>) -> Refusal {
         match e.cause {
             TakeError::BadOrder => Refusal::Block,
             TakeError::NoBlock { depth } => Refusal::NoFrame {
-                object: e.object,
-                page: e.page,
+                page: e.place,
                 depth,
             },
         }

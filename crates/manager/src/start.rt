@@ -1,12 +1,13 @@
-ghost use Rattle.std.specs.Prelude.{◌≡◌, ℕ, ◌+◌, ◌*◌, ◌^◌, ◌<◌, ◌≤◌, replicate, length, ◌&&◌, nat_le, false, Some, None, MatchResult};
-ghost use Rattle.std.specs.Int.{is_power_of_two};
-ghost use Rattle.manager.specs.Arguments.{wrong_start};
+ghost use Rattle.std.specs.Prelude.{◌≡◌, ℕ, ◌+◌, ◌*◌, ◌^◌, ◌<◌, ◌≤◌, replicate, length, [], false, Some, None, MatchResult};
+ghost use Rattle.manager.specs.Arguments.{Decides, wrong_start};
 ghost use Rattle.manager.specs.Refusals.{number_of};
 ghost use Rattle.blocks.specs.Bit.{bit};
 
 use crate::presence::Presence;
 use crate::refusal::Refusal;
 use crate::state::Manager;
+use crate::words::WordsAPage;
+use blocks::refused::Refused;
 use frames::source::FrameSource;
 use mapping::client::clear_object;
 use mapping::hardware::MappingHardware;
@@ -17,22 +18,20 @@ use reservations::table::Table;
 pub struct AcceptedStart<S: FrameSource + Drop, H: MappingHardware + Drop> {
     source: S,
     hardware: H,
-    words_a_page: u16,
+    words_a_page: WordsAPage,
 }
 
-// What was handed in for a start that is refused.
-#[derive(Drop)]
-pub struct RefusedStart<S: FrameSource + Drop, H: MappingHardware + Drop> {
-    pub source: S,
-    pub hardware: H,
-    pub refusal: Refusal,
-}
-
-// Whether a page may have so many words.
-fn are_words_a_page(words: u16) -> bool
-    ensures { result ≡ (is_power_of_two words && nat_le words 2048) }
+// Why a manager may not be started with these words a page over so many frames and this frame memory, if so.
+fn check_start(words_a_page: WordsAPage, frames: u16, memory: &[u32]) -> Result<(), Refusal>
+    ensures { Decides (wrong_start words_a_page.0 frames (length memory.now)) result (λ _. Unit {0}) }
 {
-    words >= 1 && words <= 2048 && words.is_power_of_two()
+    if !words_a_page.is_allowed() {
+        return Err(Refusal::BadWords);
+    }
+    if memory.len() != words_a_page.of_frames(frames) {
+        return Err(Refusal::BadMemory);
+    }
+    Ok(())
 }
 
 impl<S: FrameSource + Drop, H: MappingHardware + Drop> Manager<S, H> {
@@ -42,29 +41,23 @@ impl<S: FrameSource + Drop, H: MappingHardware + Drop> Manager<S, H> {
         hardware: H,
         words_a_page: u16,
         memory: &[u32],
-    ) -> Result<AcceptedStart<S, H>, RefusedStart<S, H>>
+    ) -> Result<AcceptedStart<S, H>, Refused<(S, H), Refusal>>
         ensures reply { MatchResult result (λ _. wrong_start words_a_page (S.FrameSource.means source).total (length memory.now) ≡ None) (λ b. wrong_start words_a_page (S.FrameSource.means source).total (length memory.now) ≡ Some (number_of b.refusal)) }
-        ensures handed { MatchResult result (λ a. (a.source ≡ source) × (a.hardware ≡ hardware) × (a.words_a_page ≡ words_a_page)) (λ b. (b.source ≡ source) × (b.hardware ≡ hardware)) }
+        ensures handed { MatchResult result (λ a. (a.source ≡ source) × (a.hardware ≡ hardware) × (a.words_a_page.0 ≡ words_a_page)) (λ b. (b.given.0 ≡ source) × (b.given.1 ≡ hardware)) }
     {
-        if !are_words_a_page(words_a_page) {
-            return Err(RefusedStart {
+        let words_a_page = WordsAPage(words_a_page);
+        // A `match`: a closure for the refusal would take what the other arm needs.
+        match check_start(words_a_page, source.frames(), memory) {
+            Ok(()) => Ok(AcceptedStart {
                 source,
                 hardware,
-                refusal: Refusal::BadWords,
-            });
+                words_a_page,
+            }),
+            Err(refusal) => Err(Refused {
+                given: (source, hardware),
+                refusal,
+            }),
         }
-        if memory.len() != source.frames() as usize * words_a_page as usize {
-            return Err(RefusedStart {
-                source,
-                hardware,
-                refusal: Refusal::BadMemory,
-            });
-        }
-        Ok(AcceptedStart {
-            source,
-            hardware,
-            words_a_page,
-        })
     }
 
     // A manager with all objects closed and no leaf.
@@ -72,7 +65,9 @@ impl<S: FrameSource + Drop, H: MappingHardware + Drop> Manager<S, H> {
         ensures cleared { (o : ℕ) (p : ℕ) → H.MappingHardware.at result.hardware o p ≡ None }
         ensures absent { (j : ℕ) → bit result.present.words j ≡ false }
         ensures source { result.source ≡ accepted.source }
-        ensures empty { (result.sizes ≡ replicate 4 0) × (result.reserved.count ≡ 0) × (result.words_a_page ≡ accepted.words_a_page) }
+        ensures closed { result.sizes ≡ replicate 4 None }
+        ensures unreserved { result.reserved ≡ [] }
+        ensures words { result.words_a_page ≡ accepted.words_a_page }
     {
         let AcceptedStart {
             source,
@@ -87,7 +82,7 @@ impl<S: FrameSource + Drop, H: MappingHardware + Drop> Manager<S, H> {
             hardware,
             reserved: Table::new(),
             present: Presence::new(),
-            sizes: [0; 4],
+            sizes: [None; 4],
             words_a_page,
         }
     }

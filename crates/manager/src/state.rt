@@ -1,6 +1,7 @@
 ghost use Rattle.std.specs.Prelude.{◌≡◌, length};
 
 use crate::presence::Presence;
+use crate::words::WordsAPage;
 use frames::source::FrameSource;
 use mapping::hardware::MappingHardware;
 use reservations::table::Table;
@@ -13,8 +14,7 @@ pub struct Manager<S: FrameSource + Drop, H: MappingHardware + Drop> {
     pub hardware: H,
     pub reserved: Table,
     pub present: Presence,
-    // Each object's size in pages, 0 while it is closed.
-    pub sizes: [u16; 4],
-    pub words_a_page: u16,
-    ghost four: { length sizes ≡ 4 },
+    // Each object's size in pages, none while it is closed.
+    pub sizes: [Option<u16>; 4],
+    pub words_a_page: WordsAPage,
 }

@@ -18,5 +18,7 @@ returns g c =
       ];
       absent = search rules;
       source = refl;
-      empty = search rules;
+      closed = refl;
+      unreserved = search rules;
+      words = refl;
     }

@@ -1,2 +1,2 @@
-pub mod Adding
 pub mod Fitting
+pub mod Pushing

@@ -1,24 +1,24 @@
-ghost use Rattle.std.specs.Prelude.{◌≡◌, Ok, Err};
+ghost use Rattle.std.specs.Prelude.{◌≡◌};
 ghost use Rattle.replay.specs.Faults.{TellsFault};
 
-use frames::refusal::BadSource;
-use manager::refusal::Refusal;
+use manager::refusal::{Placed, Refusal};
 
 // The trace is empty, too long or of another version.
-#[derive(Clone, Copy)]
+#[derive(Clone, Copy, PartialEq, Eq, Debug)]
 pub struct BadTrace;
 
 // The record at a place of the trace, the offset of its length byte, is none that may stand there.
-#[derive(Clone, Copy)]
+#[derive(Clone, Copy, PartialEq, Eq, Debug)]
 pub struct BadRecord {
     pub place: usize,
 }
 
 // The buffer is too short for a line.
-#[derive(Clone, Copy)]
+#[derive(Clone, Copy, PartialEq, Eq, Debug)]
 pub struct ShortBuffer;
 
 impl BadTrace {
+    // A method of each error: see `BadBlock`.
     pub fn number(self) -> u8
         ensures { result ≡ 20 }
     {
@@ -27,6 +27,7 @@ impl BadTrace {
 }
 
 impl BadRecord {
+    // A method of each error: see `BadBlock`.
     pub fn number(self) -> u8
         ensures { result ≡ 21 }
     {
@@ -35,6 +36,7 @@ impl BadRecord {
 }
 
 impl ShortBuffer {
+    // A method of each error: see `BadBlock`.
     pub fn number(self) -> u8
         ensures { result ≡ 22 }
     {
@@ -42,42 +44,23 @@ impl ShortBuffer {
     }
 }
 
-// What went wrong, with the place of the record that asked for it.
-#[derive(Clone, Copy)]
-pub struct Placed<E> {
-    pub place: usize,
-    pub cause: E,
-}
-
-// The same result, its error placed in the trace.
-pub fn placed_in_trace<T, E: Drop>(res: Result<T, E>, place: usize) -> Result<T, Placed<E>>
-    ensures { elim res [ Ok value ↦ result ≡ Ok value | Err cause ↦ result ≡ Err (record { place = place; cause = cause }) ] }
-{
-    match res {
-        Ok(value) => Ok(value),
-        Err(cause) => Err(Placed { place, cause }),
-    }
-}
-
 // What a record's line tells where the record is refused.
-#[derive(Clone, Copy)]
+#[derive(Clone, Copy, PartialEq, Eq, Debug)]
 pub enum Fault {
-    Refused { number: u8 },
+    Refused(Refusal),
     NoFrame { depth: u8, place: usize },
 }
 
-impl From<Placed<Refusal>> for Fault {
+impl From<Placed<usize, Refusal>> for Fault {
     ghost from_gives = { λ e f. TellsFault e.place e.cause f };
 
-    fn from(e: Placed<Refusal>) -> Fault {
+    fn from(e: Placed<usize, Refusal>) -> Fault {
         match e.cause {
             Refusal::NoFrame { depth, .. } => Fault::NoFrame {
                 depth,
                 place: e.place,
             },
-            refusal => Fault::Refused {
-                number: refusal.number(),
-            },
+            refusal => Fault::Refused(refusal),
         }
     }
 }

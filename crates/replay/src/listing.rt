@@ -12,18 +12,15 @@ const MOST_LINES: usize = 65536;
 fn write_lines<L: Lines, W: Write>(lines: &mut L, out: &mut W) -> io::Result<()> {
     let mut buffer = [0u8; LINE_BYTES];
     for _ in 0..MOST_LINES {
-        let Ok(told) = lines.next_line(&mut buffer) else {
+        let Ok(Some(count)) = lines.next_line(&mut buffer) else {
             return Ok(());
         };
-        let Some(count) = told else {
-            return Ok(());
-        };
-        out.write_all(&buffer[0..count])?;
+        out.write_all(&buffer[..count])?;
     }
     Ok(())
 }
 
-// Writes the listing of a trace.
+// Writes the listing of a trace. What was opened is an enum, since a function may not hand out a `dyn`.
 pub fn write_listing<W: Write>(trace: &[u8], heap: Global, out: &mut W) -> io::Result<()> {
     match open_trace(trace, heap)? {
         Opened::Alpha(mut replay) => write_lines(&mut replay, out),

@@ -1,25 +1,48 @@
-ghost use Rattle.std.specs.Prelude.{◌≡◌, ℕ, ◌+◌, ◌<◌, ◌≤◌, length};
+ghost use Rattle.std.specs.Prelude.{◌≡◌, ℕ, ◌+◌, ◌<◌, ◌≤◌, length, IfErr};
+ghost use Rattle.replay.specs.Faults.{FaultAt};
 
-use crate::fault::{Fault, Placed, ShortBuffer, placed_in_trace};
+use crate::fault::{BadRecord, Fault, ShortBuffer};
 use crate::line::{check_buffer, write_flush, write_line, write_title};
 use crate::lines::Lines;
-use crate::reader::read_record;
-use crate::record::{CallRecord, Record};
-use blocks::number::PageNumber;
+use crate::reader::read_at;
+use crate::record::CallRecord;
+use blocks::number::{FrameNumber, ObjectPage};
 use frames::source::FrameSource;
-use manager::leaves::frame_under;
-use manager::refusal::Refusal;
+use manager::refusal::{Placed, Refusal};
 use manager::state::Manager;
 use mapping::hardware::MappingHardware;
 
-// What comes next in the listing of a trace that has a machine.
-#[derive(Clone, Copy)]
+// What comes next in the listing of a trace that has a machine. The caller asks for one line at a time, so this is kept
+// between two calls.
+#[derive(Clone, Copy, PartialEq, Eq, Debug)]
 pub enum Stage {
     Title,
     Machine,
     Records { place: usize },
     Counts,
     Ended,
+}
+
+// A place as a line tells it: none lies past 65,535.
+fn told_place(place: usize) -> u32
+    ensures few { result ≤ 65535 }
+    ensures same { place ≤ 65535 → result ≡ place }
+{
+    place.min(65535) as u32
+}
+
+// The functions that write a line take the caller's buffer and hand it on to `write_line` and its like, which make a `Line`
+// of it: a `Line` of their own would be open in two places at once.
+
+// The line of a record that may not stand where it does.
+pub(crate) fn bad_record_line(bad: BadRecord, buffer: &mut [u8]) -> usize
+    ensures { result ≤ length buffer.old }
+{
+    write_line(
+        buffer,
+        b'X',
+        &[u32::from(bad.number()), told_place(bad.place)],
+    )
 }
 
 // The replay of a trace on the machine that it asked for.
@@ -34,20 +57,21 @@ pub struct MachineReplay<'a, S: FrameSource + Drop, H: MappingHardware + Drop> {
     flushed: Vec<u16>,
 }
 
-// What an accepted call tells.
-#[derive(Clone, Copy)]
-pub enum Told {
-    Nothing,
-    Loaded { word: u32, frame: u16, order: u8 },
-    Stored { frame: u16, order: u8 },
-    Flushed { count: u16 },
+// Where a page lies after a load or a store: its frame and the order of its leaf.
+#[derive(Clone, Copy, PartialEq, Eq, Debug)]
+pub struct Lying {
+    pub frame: FrameNumber,
+    pub order: u8,
 }
 
-// Where a page lies after a load or a store: its frame and the order of its leaf.
-#[derive(Clone, Copy)]
-struct Lying {
-    frame: u16,
-    order: u8,
+// What an accepted call tells.
+#[derive(Clone, Copy, PartialEq, Eq, Debug)]
+pub enum Told {
+    Nothing,
+    Loaded { word: u32, lying: Lying },
+    Stored(Lying),
+    // The pages are the first ones of the replay's own list, which is made once: so only their count is told.
+    Flushed { count: u16 },
 }
 
 impl<'a, S: FrameSource + Drop, H: MappingHardware + Drop> MachineReplay<'a, S, H> {
@@ -70,14 +94,12 @@ impl<'a, S: FrameSource + Drop, H: MappingHardware + Drop> MachineReplay<'a, S, 
         }
     }
 
-    fn lying(&self, object: u8, page: PageNumber) -> Result<Lying, Refusal> {
-        match self.manager.leaf(object, page)? {
-            Some(leaf) => Ok(Lying {
-                frame: frame_under(leaf, page).0,
-                order: leaf.order,
-            }),
-            None => Err(Refusal::PageAbsent),
-        }
+    fn lying(&self, page: ObjectPage) -> Result<Lying, Refusal> {
+        let leaf = self.manager.leaf(page)?.ok_or(Refusal::PageAbsent)?;
+        Ok(Lying {
+            frame: leaf.frame_of(page.number),
+            order: leaf.order,
+        })
     }
 
     // Has the manager serve a call.
@@ -87,24 +109,17 @@ impl<'a, S: FrameSource + Drop, H: MappingHardware + Drop> MachineReplay<'a, S, 
                 self.manager.open(object, size)?;
                 Ok(Told::Nothing)
             }
-            CallRecord::Load { object, page, word } => {
-                let word = self.manager.load(&mut self.memory, object, page, word)?;
-                let Lying { frame, order } = self.lying(object, page)?;
-                Ok(Told::Loaded { word, frame, order })
+            CallRecord::Load { page, word } => {
+                let word = self.manager.load(&mut self.memory, page, word)?;
+                let lying = self.lying(page)?;
+                Ok(Told::Loaded { word, lying })
             }
-            CallRecord::Store {
-                object,
-                page,
-                word,
-                value,
-            } => {
-                self.manager
-                    .store(&mut self.memory, object, page, word, value)?;
-                let Lying { frame, order } = self.lying(object, page)?;
-                Ok(Told::Stored { frame, order })
+            CallRecord::Store { page, word, value } => {
+                self.manager.store(&mut self.memory, page, word, value)?;
+                Ok(Told::Stored(self.lying(page)?))
             }
-            CallRecord::Release { object, page } => {
-                self.manager.release(object, page)?;
+            CallRecord::Release { page } => {
+                self.manager.release(page)?;
                 Ok(Told::Nothing)
             }
             CallRecord::Flush { object } => {
@@ -114,9 +129,12 @@ impl<'a, S: FrameSource + Drop, H: MappingHardware + Drop> MachineReplay<'a, S, 
         }
     }
 
-    // The same, what is refused placed in the trace.
-    fn serve(&mut self, asked: CallRecord, place: usize) -> Result<Told, Fault> {
-        Ok(placed_in_trace(self.call(asked), place)?)
+    // The same; a refusal gets the place of its record.
+    fn serve(&mut self, asked: CallRecord, place: usize) -> Result<Told, Fault>
+        ensures { IfErr result (FaultAt place) }
+    {
+        let told = self.call(asked).map_err(|cause| Placed { place, cause })?;
+        Ok(told)
     }
 
     // Serves a call and writes its line.
@@ -126,14 +144,12 @@ impl<'a, S: FrameSource + Drop, H: MappingHardware + Drop> MachineReplay<'a, S, 
         let letter = asked.letter();
         match self.serve(asked, place) {
             Ok(told) => self.told_line(letter, told, buffer),
-            Err(fault) => match fault {
-                Fault::Refused { number } => write_line(buffer, letter, &[u32::from(number)]),
-                Fault::NoFrame { depth, place } => write_line(
-                    buffer,
-                    letter,
-                    &[11, u32::from(depth), place.min(65535) as u32],
-                ),
-            },
+            Err(Fault::Refused(refusal)) => {
+                write_line(buffer, letter, &[u32::from(refusal.number())])
+            }
+            Err(Fault::NoFrame { depth, place }) => {
+                write_line(buffer, letter, &[11, u32::from(depth), told_place(place)])
+            }
         }
     }
 
@@ -142,16 +158,17 @@ impl<'a, S: FrameSource + Drop, H: MappingHardware + Drop> MachineReplay<'a, S, 
     {
         match told {
             Told::Nothing => write_line(buffer, letter, &[0]),
-            Told::Loaded { word, frame, order } => write_line(
-                buffer,
-                letter,
-                &[0, word, u32::from(frame), u32::from(order)],
-            ),
-            Told::Stored { frame, order } => write_line(
-                buffer,
-                letter,
-                &[0, u32::from(frame), u32::from(order)],
-            ),
+            Told::Loaded { word, lying } => {
+                let Lying { frame, order } = lying;
+                write_line(
+                    buffer,
+                    letter,
+                    &[0, word, u32::from(frame.0), u32::from(order)],
+                )
+            }
+            Told::Stored(Lying { frame, order }) => {
+                write_line(buffer, letter, &[0, u32::from(frame.0), u32::from(order)])
+            }
             Told::Flushed { count } => {
                 let pages = self.flushed.as_slice();
                 write_flush(
@@ -167,21 +184,14 @@ impl<'a, S: FrameSource + Drop, H: MappingHardware + Drop> MachineReplay<'a, S, 
     fn record_line(&mut self, place: usize, buffer: &mut [u8]) -> usize
         ensures { result ≤ length buffer.old }
     {
-        match read_record(self.trace, place) {
+        match read_at::<CallRecord>(self.trace, place) {
             Ok(read) => {
                 self.stage = Stage::Records { place: read.next };
-                match read.record {
-                    Record::Call(asked) => self.call_line(asked, place, buffer),
-                    Record::Machine(_) => write_line(buffer, b'M', &[0]),
-                }
+                self.call_line(read.record, place, buffer)
             }
             Err(bad) => {
                 self.stage = Stage::Counts;
-                write_line(
-                    buffer,
-                    b'X',
-                    &[u32::from(bad.number()), place.min(65535) as u32],
-                )
+                bad_record_line(bad, buffer)
             }
         }
     }

@@ -1,32 +1,59 @@
 ghost use Rattle.std.specs.Prelude.{◌≡◌, ℕ, ◌+◌, ◌<◌, ◌≤◌, length, Some, None};
+ghost use Rattle.replay.specs.declared.opening.Cause.TheVariants as CauseIs;
 
-use crate::fault::{BadTrace, ShortBuffer};
+use crate::fault::{BadRecord, BadTrace, ShortBuffer};
 use crate::line::{check_buffer, write_line, write_title};
 use crate::lines::Lines;
-use crate::machine_replay::MachineReplay;
-use crate::reader::{FIRST_PLACE, check_trace, read_record};
-use crate::record::{Board, MachineRecord, Record};
+use crate::machine_replay::{MachineReplay, bad_record_line};
+use crate::reader::{FIRST_PLACE, Parsed, check_trace, read_at};
+use crate::record::{Board, MachineRecord};
 use frames::buddy::Buddy;
 use frames::quota::Quota;
 use frames::refusal::BadSource;
 use frames::source::FrameSource;
 use manager::state::Manager;
 use mapping::alpha::Alpha;
+use mapping::board::{AcceptedTable, Board as BoardTable, Format};
 use mapping::hardware::MappingHardware;
 use mapping::sv39::Sv39;
 use std::alloc::{AllocError, Global};
 
 // Why a trace has no machine.
-#[derive(Clone, Copy)]
+#[derive(Clone, Copy, PartialEq, Eq, Debug)]
 pub enum Cause {
-    BadTrace { number: u8 },
-    BadRecord { number: u8 },
-    Refused { number: u8 },
+    BadTrace(BadTrace),
+    BadRecord(BadRecord),
+    Refused(BadSource),
+    // It ends behind its version.
     NoRecord,
 }
 
-// What comes next in the listing of a trace that has no machine.
-#[derive(Clone, Copy)]
+impl From<BadTrace> for Cause {
+    ghost from_gives = { λ e c. c ≡ CauseIs.BadTrace e };
+
+    fn from(e: BadTrace) -> Cause {
+        Cause::BadTrace(e)
+    }
+}
+
+impl From<BadRecord> for Cause {
+    ghost from_gives = { λ e c. c ≡ CauseIs.BadRecord e };
+
+    fn from(e: BadRecord) -> Cause {
+        Cause::BadRecord(e)
+    }
+}
+
+impl From<BadSource> for Cause {
+    ghost from_gives = { λ e c. c ≡ CauseIs.Refused e };
+
+    fn from(e: BadSource) -> Cause {
+        Cause::Refused(e)
+    }
+}
+
+// What comes next in the listing of a trace that has no machine, kept between two calls for a line.
+#[derive(Clone, Copy, PartialEq, Eq, Debug)]
 enum Stage {
     Title,
     Cause,
@@ -34,7 +61,7 @@ enum Stage {
 }
 
 // The listing of a trace that has no machine.
-#[derive(Clone, Copy)]
+#[derive(Clone, Copy, PartialEq, Eq, Debug)]
 pub struct Machineless {
     stage: Stage,
     cause: Cause,
@@ -55,9 +82,11 @@ impl Machineless {
         ensures { elim result [ Some n ↦ (n ≤ length buffer.old) | None ↦ Unit {0} ] }
     {
         match self.cause {
-            Cause::BadTrace { number } => Some(write_line(buffer, b'X', &[u32::from(number), 0])),
-            Cause::BadRecord { number } => Some(write_line(buffer, b'X', &[u32::from(number), 1])),
-            Cause::Refused { number } => Some(write_line(buffer, b'M', &[u32::from(number)])),
+            Cause::BadTrace(bad) => {
+                Some(write_line(buffer, b'X', &[u32::from(bad.number()), 0]))
+            }
+            Cause::BadRecord(bad) => Some(bad_record_line(bad, buffer)),
+            Cause::Refused(bad) => Some(write_line(buffer, b'M', &[u32::from(bad.number())])),
             Cause::NoRecord => None,
         }
     }
@@ -88,55 +117,42 @@ pub enum Opened<'a> {
     Without(Machineless),
 }
 
-// The machine that a trace begins with, and the place of the record after it.
-#[derive(Clone, Copy)]
-struct FirstRecord {
-    machine: MachineRecord,
-    next: usize,
-}
-
-fn read_machine(trace: &[u8]) -> Result<FirstRecord, Cause> {
-    if let Err(bad) = check_trace(trace) {
-        return Err(Cause::BadTrace {
-            number: bad.number(),
-        });
-    }
+// The machine that a trace begins with.
+fn read_machine(trace: &[u8]) -> Result<Parsed<MachineRecord>, Cause> {
+    check_trace(trace)?;
     if trace.len() <= FIRST_PLACE {
         return Err(Cause::NoRecord);
     }
-    match read_record(trace, FIRST_PLACE) {
-        Ok(read) => match read.record {
-            Record::Machine(machine) => Ok(FirstRecord {
-                machine,
-                next: read.next,
-            }),
-            Record::Call(_) => Err(Cause::BadRecord { number: 21 }),
-        },
-        Err(bad) => Err(Cause::BadRecord {
-            number: bad.number(),
-        }),
-    }
+    Ok(read_at(trace, FIRST_PLACE)?)
 }
 
 // The frames of a machine: a quota over a buddy source.
-fn make_source(frames: u16, quota: u16) -> Result<Quota<Buddy>, Cause> {
-    let Ok(accepted) = Buddy::check(frames) else {
-        return Err(Cause::Refused { number: 14 });
-    };
-    let Ok(limited) = Quota::check(quota, Buddy::make(accepted)) else {
-        return Err(Cause::Refused { number: 14 });
-    };
-    Ok(Quota::make(limited))
+fn make_source(machine: MachineRecord) -> Result<Quota<Buddy>, BadSource> {
+    let buddy = Buddy::make(Buddy::check(machine.frames)?);
+    let accepted = Quota::check(machine.quota, buddy).map_err(|refused| refused.refusal)?;
+    Ok(Quota::make(accepted))
 }
 
-// A machine's memory: a word for each frame, and room for the pages of a flush.
-fn start<'a, S: FrameSource + Drop, H: MappingHardware + Drop>(
+// What a trace begins with, and the frames of the machine that it asks for.
+fn read_source(trace: &[u8]) -> Result<(Parsed<MachineRecord>, Quota<Buddy>), Cause> {
+    let first = read_machine(trace)?;
+    Ok((first, make_source(first.record)?))
+}
+
+// A table for a board, as long as it needs.
+fn blank_table<B: BoardTable>(heap: Global) -> Result<AcceptedTable<B>, AllocError> {
+    Ok(B::check(vec![in heap; 0u64; B::ENTRIES]?).unwrap())
+}
+
+// The replay over some hardware, with a memory of a word for each frame and room for the pages of a flush. None would
+// tell that the memory does not fit, which does not happen: `unwrap` was tried, and the proof did not close.
+fn start<'a, H: MappingHardware + Drop>(
     trace: &'a [u8],
     heap: Global,
     second: usize,
-    source: S,
+    source: Quota<Buddy>,
     hardware: H,
-) -> Result<Option<MachineReplay<'a, S, H>>, AllocError> {
+) -> Result<Option<MachineReplay<'a, Quota<Buddy>, H>>, AllocError> {
     let memory = vec![in heap; 0u32; source.frames() as usize]?;
     let flushed = vec![in heap; 0u16; 1024]?;
     let Ok(accepted) = Manager::check(source, hardware, 1, memory.as_slice()) else {
@@ -145,48 +161,35 @@ fn start<'a, S: FrameSource + Drop, H: MappingHardware + Drop>(
     Ok(Some(MachineReplay::new(trace, second, Manager::start(accepted), memory, flushed)))
 }
 
-fn open_alpha<'a>(
+// The replay of a trace on the machine that its first record asks for. The two boards differ in how they are made of a
+// table: no trait has that, and no bound on a function that makes one can be stated.
+fn open_on<'a>(
     trace: &'a [u8],
     heap: Global,
-    second: usize,
+    first: Parsed<MachineRecord>,
     source: Quota<Buddy>,
-) -> Result<Opened<'a>, AllocError> {
-    let Ok(accepted) = Alpha::check(vec![in heap; 0u64; 4096]?) else {
-        return Ok(Opened::Without(Machineless::new(Cause::NoRecord)));
-    };
-    match start(trace, heap, second, source, Alpha::make(accepted))? {
-        Some(replay) => Ok(Opened::Alpha(replay)),
-        None => Ok(Opened::Without(Machineless::new(Cause::NoRecord))),
-    }
-}
-
-fn open_sv39<'a>(
-    trace: &'a [u8],
-    heap: Global,
-    second: usize,
-    source: Quota<Buddy>,
-) -> Result<Opened<'a>, AllocError> {
-    let Ok(accepted) = Sv39::check(vec![in heap; 0u64; 4104]?) else {
-        return Ok(Opened::Without(Machineless::new(Cause::NoRecord)));
-    };
-    match start(trace, heap, second, source, Sv39::make(accepted))? {
-        Some(replay) => Ok(Opened::Sv39(replay)),
-        None => Ok(Opened::Without(Machineless::new(Cause::NoRecord))),
+) -> Result<Option<Opened<'a>>, AllocError> {
+    match first.record.board {
+        Board::Alpha => {
+            let hardware = Alpha::make(blank_table(heap)?);
+            let replay = start(trace, heap, first.next, source, hardware)?;
+            Ok(replay.map(|replay| Opened::Alpha(replay)))
+        }
+        Board::Sv39 => {
+            let hardware = Sv39::make(blank_table(heap)?);
+            let replay = start(trace, heap, first.next, source, hardware)?;
+            Ok(replay.map(|replay| Opened::Sv39(replay)))
+        }
     }
 }
 
 // Opens a trace: makes the machine that its first record asks for.
 pub fn open_trace<'a>(trace: &'a [u8], heap: Global) -> Result<Opened<'a>, AllocError> {
-    let first = match read_machine(trace) {
-        Ok(first) => first,
-        Err(cause) => return Ok(Opened::Without(Machineless::new(cause))),
-    };
-    let source = match make_source(first.machine.frames, first.machine.quota) {
-        Ok(source) => source,
-        Err(cause) => return Ok(Opened::Without(Machineless::new(cause))),
-    };
-    match first.machine.board {
-        Board::Alpha => open_alpha(trace, heap, first.next, source),
-        Board::Sv39 => open_sv39(trace, heap, first.next, source),
+    match read_source(trace) {
+        Ok((first, source)) => {
+            let opened = open_on(trace, heap, first, source)?;
+            Ok(opened.unwrap_or(Opened::Without(Machineless::new(Cause::NoRecord))))
+        }
+        Err(cause) => Ok(Opened::Without(Machineless::new(cause))),
     }
 }

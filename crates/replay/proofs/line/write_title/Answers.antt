@@ -1,14 +1,9 @@
-use Rattle.std.proofs.Common.{refl, arith}
+use Rattle.std.proofs.Common.{rules}
 use Rattle.replay.specs.Lines.{title}
-use Rattle.replay.proofs.Adding.{adds_then, adds_as}
+use Rattle.replay.proofs.Pushing.{pushes_then, pushes_whole}
 use Rattle.replay.proofs.line.write_title.Goals as goal
 
-pub returns : goal.returns
+pub returns-clause-adds : goal.returns-clause-adds
 unfolding title
-returns c =
-    record {
-      within = let a = c.push_bytes-end.ensures.within (omega arith) in let z = c.push_byte.ensures.within (omega arith) in omega arith;
-      adds = λ h.
-          let a = c.push_bytes-end.ensures.adds (omega arith) in
-          adds_as refl (adds_then a (c.push_byte.ensures.adds (omega (arith, a.stops))));
-    }
+returns-clause-adds c = λ h.
+    pushes_whole (pushes_then c.push_bytes.ensures c.push_byte.ensures) c.new-text.ensures.same_bytes c.new-text.ensures.empty (search rules) c.len.ensures h

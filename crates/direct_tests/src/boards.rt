@@ -1,6 +1,7 @@
-use blocks::block::PageBlock;
-use blocks::number::{FrameNumber, PageNumber};
+use blocks::block::{ObjectBlock, PageBlock};
+use blocks::number::{FrameNumber, ObjectPage, PageNumber};
 use mapping::alpha::Alpha;
+use mapping::board::{AcceptedTable, Board};
 use mapping::client::clear_object;
 use mapping::hardware::MappingHardware;
 use mapping::leaf::Leaf;
@@ -8,21 +9,22 @@ use mapping::sv39::Sv39;
 use std::alloc::Global;
 use std::test::Fail;
 
-fn alpha(heap: Global) -> Result<Alpha, Fail> {
-    match Alpha::check(vec![in heap; 7u64; 4096]?) {
-        Ok(accepted) => Ok(Alpha::make(accepted)),
-        Err(_) => Err(Fail::new("refused")),
-    }
+// A table whose entries are 7, and the refusal's number where a board has no use for one of this length.
+fn sevens<B: Board>(heap: Global, length: usize) -> Result<Result<AcceptedTable<B>, u8>, Fail> {
+    Ok(B::check(vec![in heap; 7u64; length]?).map_err(|refused| refused.refusal.number()))
+}
+
+pub(crate) fn alpha(heap: Global) -> Result<Alpha, Fail> {
+    let accepted = sevens(heap, 4096)?.map_err(|_| Fail::new("refused"))?;
+    Ok(Alpha::make(accepted))
 }
 
 fn sv39(heap: Global) -> Result<Sv39, Fail> {
-    match Sv39::check(vec![in heap; 7u64; 4104]?) {
-        Ok(accepted) => Ok(Sv39::make(accepted)),
-        Err(_) => Err(Fail::new("refused")),
-    }
+    let accepted = sevens(heap, 4104)?.map_err(|_| Fail::new("refused"))?;
+    Ok(Sv39::make(accepted))
 }
 
-// 0, or the number of the refusal.
+// 0, or the number of the refusal: the tables below have the numbers as the rules give them.
 fn put<H: MappingHardware>(
     hardware: &mut H,
     object: u8,
@@ -33,16 +35,18 @@ fn put<H: MappingHardware>(
 ) -> u8 {
     match PageBlock::new(PageNumber(first), order) {
         Err(bad) => bad.number(),
-        Ok(pages) => match hardware.put(object, pages, FrameNumber(frame), writable) {
-            Ok(()) => 0,
-            Err(refused) => refused.number(),
-        },
+        Ok(pages) => {
+            match hardware.put(ObjectBlock { object, pages }, FrameNumber(frame), writable) {
+                Ok(()) => 0,
+                Err(refused) => refused.number(),
+            }
+        }
     }
 }
 
-// The order, or the number of the refusal.
-fn clear<H: MappingHardware>(hardware: &mut H, object: u8, page: u16) -> u8 {
-    match hardware.clear(object, PageNumber(page)) {
+// The order, or the number of the refusal, as the cases have it.
+fn clear<H: MappingHardware>(hardware: &mut H, object: u8, number: u16) -> u8 {
+    match hardware.clear(ObjectPage::new(object, number)) {
         Ok(order) => order,
         Err(refused) => refused.number(),
     }
@@ -78,22 +82,23 @@ fn entries_as_worked(rt: HostRuntime) -> Result<(), Fail> {
         frame: FrameNumber(512),
         writable: false,
     };
-    assert_eq!(rt; s.leaf(1, PageNumber(600)), Some(leaf));
+    assert_eq!(rt; s.leaf(ObjectPage::new(1, 600)), Some(leaf));
     Ok(())
 }
 
-// The number of the refusal, or the last entry of the table.
+// The number of the refusal, or the last entry of the table, as the cases have it.
 fn alpha_of(heap: Global, length: usize) -> Result<u64, Fail> {
-    match Alpha::check(vec![in heap; 7u64; length]?) {
+    match sevens(heap, length)? {
         Ok(accepted) => Ok(entry(Alpha::make(accepted).entries(), 4095)),
-        Err(bad) => Ok(u64::from(bad.number())),
+        Err(number) => Ok(u64::from(number)),
     }
 }
 
+// The same of the other board: see `make`.
 fn sv39_of(heap: Global, length: usize) -> Result<u64, Fail> {
-    match Sv39::check(vec![in heap; 7u64; length]?) {
+    match sevens(heap, length)? {
         Ok(accepted) => Ok(entry(Sv39::make(accepted).entries(), 4103)),
-        Err(bad) => Ok(u64::from(bad.number())),
+        Err(number) => Ok(u64::from(number)),
     }
 }
 

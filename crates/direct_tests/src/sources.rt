@@ -11,7 +11,7 @@ use std::process::Abort;
 use std::test::Fail;
 
 // A call and what it answers: a take its first frame.
-#[derive(Clone, Copy)]
+#[derive(Clone, Copy, PartialEq, Eq, Debug)]
 enum Step {
     Take(u8, Result<u16, TakeError>),
     Give(u16, u8, Result<(), GiveError>),
@@ -78,7 +78,7 @@ fn run<S: FrameSource>(rt: &impl Abort, source: &mut S, steps: &[Step]) -> Resul
     Ok(())
 }
 
-fn buddy(frames: u16) -> Result<Buddy, BadSource> {
+pub(crate) fn buddy(frames: u16) -> Result<Buddy, BadSource> {
     Ok(Buddy::make(Buddy::check(frames)?))
 }
 
@@ -122,7 +122,7 @@ fn boot_list(
     match BootList::check(frames, places.to_vec(heap)?, filled) {
         Ok(accepted) => Ok(Some(BootList::make(accepted))),
         Err(refused) => {
-            assert_eq!(rt; refused.places.as_slice(), places);
+            assert_eq!(rt; refused.given.as_slice(), places);
             Ok(None)
         }
     }
@@ -153,10 +153,8 @@ fn boot_lists(rt: HostRuntime) -> Result<(), Fail> {
 }
 
 fn quota<S: FrameSource + Drop>(limit: u16, below: S) -> Result<Quota<S>, Fail> {
-    match Quota::check(limit, below) {
-        Ok(accepted) => Ok(Quota::make(accepted)),
-        Err(_) => Err(Fail::new("refused")),
-    }
+    let accepted = Quota::check(limit, below).map_err(|_| Fail::new("refused"))?;
+    Ok(Quota::make(accepted))
 }
 
 #[test]

@@ -16,8 +16,8 @@ pub struct AlignedBlock {
 #[derive(Clone, Copy, PartialEq, Eq, Debug)]
 pub struct BadBlock;
 
-// Each error tells the number of its rule by such a method. A trait would need the number twice, as a constant and as its
-// ghost, and no generic code asks for a number; and what a take says where it has no block has none.
+// Each error that is the refusal of a rule tells the rule's number by such a method. A trait would need the number twice, as
+// a constant and as its ghost, and no generic code asks for a number; and what a take says where it has no block has none.
 impl BadBlock {
     pub fn number(self) -> u8
         ensures { result ≡ bad_block_number }

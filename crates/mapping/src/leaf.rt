@@ -3,7 +3,8 @@ ghost use Rattle.mapping.specs.Leaves.{put_error_number, no_leaf_number};
 
 use blocks::number::{FrameNumber, PageNumber};
 
-// One table entry's worth of mapping: a block of pages on consecutive frames. Plain numbers: an entry may tell any.
+// One table entry's worth of mapping: a block of pages on consecutive frames. Plain numbers: an entry may tell any,
+// and a record of the three would only be one more name in each clause.
 #[derive(Clone, Copy, PartialEq, Eq, Debug)]
 pub struct Leaf {
     pub first: PageNumber,

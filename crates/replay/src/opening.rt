@@ -77,7 +77,7 @@ impl Machineless {
         }
     }
 
-    // The line that tells the cause, if it has one.
+    // The line that tells the cause, if it has one. It hands the buffer on to those that make a `Line` of it.
     fn cause_line(&self, buffer: &mut [u8]) -> Option<usize>
         ensures { elim result [ Some n ↦ (n ≤ length buffer.old) | None ↦ Unit {0} ] }
     {
@@ -162,7 +162,7 @@ fn start<'a, H: MappingHardware + Drop>(
 }
 
 // The replay of a trace on the machine that its first record asks for. The two boards differ in how they are made of a
-// table: no trait has that, and no bound on a function that makes one can be stated.
+// table: no trait has that, and no bound on a function that takes an `AcceptedTable<B>` can be stated.
 fn open_on<'a>(
     trace: &'a [u8],
     heap: Global,

@@ -9,7 +9,8 @@ use blocks::block::{FrameBlock, ObjectBlock, PageBlock};
 use blocks::number::{FrameNumber, ObjectPage, PageNumber};
 
 // A block of an object's pages, the block of frames held for it, and which of the pages are present. The fields are plain
-// numbers, not blocks: a table takes any reservation, also one whose numbers make no block.
+// numbers, not blocks: a table takes any reservation, also one whose numbers make no block, and a record of them would only be
+// one more name in each clause.
 #[derive(Clone, Copy, PartialEq, Eq, Default, Debug)]
 pub struct Reservation {
     pub object: u8,

@@ -2,7 +2,7 @@ ghost use Rattle.std.specs.Prelude.{◌≡◌, ℕ, ◌+◌, ◌-◌, ◌*◌, �
 
 // A number that counts pages, or frames, from 0.
 pub trait Number: Copy {
-    // What it counts up to.
+    // The number itself.
     ghost value: { Self → ℕ };
 
     fn new(number: u16) -> Self

@@ -1,17 +1,12 @@
-use Rattle.std.proofs.Common.{◌≡◌, ℕ, zero, suc, ◌+◌, ◌<◌, ◌≤◌, ◌≢◌, true, false, List, [], ◌∷◌, ◌++◌, append-nil, length, length-append, take, set, get_or, length-set, get_or-set_other, sym, ap, ◌∙◌, Some, None, Option, refl, add-one, arith}
+use Rattle.std.proofs.Common.{Bool, cond, true, false, ◌≡◌, ℕ, ◌+◌, ◌<◌, ◌≤◌, ◌≢◌, List, [], ◌∷◌, ◌++◌, append-nil, length, length-append, take, set, get_or, length-set, get_or-set_other, sym, ap, ◌∙◌, Some, None, Option, refl, add-one, arith}
 use Rattle.std.proofs.Math.Seq.{take-suc-set}
 use Rattle.std.specs.List.{range_with_len, filter}
 use Rattle.std.proofs.lemmas.List.Sums.{length-filter, count_by-le-length}
-use Rattle.std.proofs.lemmas.List.Elements.{filter-append}
-use Rattle.std.proofs.lemmas.List.FromFn.{length-range_with_len}
+use Rattle.std.proofs.lemmas.List.{map-id}
+use Rattle.std.proofs.lemmas.List.FromFn.{length-range_with_len, filter_of_map_range_with_len_more}
 use Rattle.mapping.specs.Leaves.{Leaves, Lawful}
 use Rattle.mapping.specs.declared.leaf.Leaf.{Leaf}
 use Rattle.manager.specs.Arguments.{is_stored, stored_below, stored_pages}
-
--- one number more
-range_more : (a n : ℕ) → range_with_len a (suc n) ≡ range_with_len a n ++ (a + n) ∷ []
-range_more a zero = let e : a ≡ a + 0 = omega arith in ap (λ x. x ∷ []) e
-range_more a (suc n) = let e : a + 1 + n ≡ a + suc n = omega arith in ap (λ xs. a ∷ xs) (range_more (a + 1) n ∙ ap (λ x. range_with_len (a + 1) n ++ x ∷ []) e)
 
 -- as many are stored as are listed, and no more than there are
 pub stored_is : (at : ℕ → Option Leaf) (n : ℕ) → length (stored_pages at n) ≡ stored_below at n
@@ -21,13 +16,12 @@ pub stored_few : (at : ℕ → Option Leaf) (n : ℕ) → stored_below at n ≤ 
 stored_few at n = omega (arith, count_by-le-length (λ page. is_stored (at page)) (range_with_len 0 n), length-range_with_len 0 n)
 
 -- the list of one page more
-listed_one : (at : ℕ → Option Leaf) (n : ℕ) → stored_pages at (n + 1) ≡ stored_pages at n ++ filter (λ page. is_stored (at page)) (n ∷ [])
+listed_one : (at : ℕ → Option Leaf) (n : ℕ) → stored_pages at (n + 1) ≡ stored_pages at n ++ cond (is_stored (at n)) (n ∷ []) []
 listed_one at n =
-    let e : n + 1 ≡ suc n = omega arith in
-    let z : 0 + n ≡ n = omega arith in
-    ap (λ x. filter (λ page. is_stored (at page)) (range_with_len 0 x)) e
-    ∙ ap (filter (λ page. is_stored (at page))) (range_more 0 n ∙ ap (λ x. range_with_len 0 n ++ x ∷ []) z)
-    ∙ filter-append (λ page. is_stored (at page)) (range_with_len 0 n) (n ∷ [])
+    let p : ℕ → Bool = λ page. is_stored (at page) in
+    ap (filter p) (sym (map-id (range_with_len 0 (n + 1))))
+    ∙ filter_of_map_range_with_len_more p (λ x. x) 0 n n (omega arith)
+    ∙ ap (λ xs. filter p xs ++ cond (p n) (n ∷ []) []) (map-id (range_with_len 0 n))
 
 pub listed_more : (at : ℕ → Option Leaf) (n : ℕ) → is_stored (at n) ≡ true → stored_pages at (n + 1) ≡ stored_pages at n ++ (n ∷ [])
 listed_more at n e = listed_one at n ∙ ap (λ ys. stored_pages at n ++ ys) (rw e refl)

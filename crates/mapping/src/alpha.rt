@@ -94,7 +94,7 @@ impl Geometry for Alpha {
 }
 
 impl Format for Alpha {
-    const ENTRIES: usize = 4096;
+    const ENTRIES: usize = Alpha::ENTRIES;
 
     const BAD_TABLE: u8 = 18;
 
@@ -191,6 +191,9 @@ impl Board for Alpha {
 }
 
 impl Alpha {
+    // The same as of `Format`, for those who name the board.
+    pub const ENTRIES: usize = 4096;
+
     // A board without a leaf. One for each board: see `Board`.
     pub fn make(accepted: AcceptedTable<Alpha>) -> Alpha
         ensures none { (o p : ℕ) → alpha_at result.table.items o p ≡ None }

@@ -155,7 +155,7 @@ impl Geometry for Sv39 {
 }
 
 impl Format for Sv39 {
-    const ENTRIES: usize = 4104;
+    const ENTRIES: usize = Sv39::ENTRIES;
 
     const BAD_TABLE: u8 = 19;
 
@@ -256,6 +256,9 @@ impl Board for Sv39 {
 }
 
 impl Sv39 {
+    // The same as of `Format`, for those who name the board.
+    pub const ENTRIES: usize = 4104;
+
     // A board without a leaf. One for each board: see `Board`.
     pub fn make(accepted: AcceptedTable<Sv39>) -> Sv39
         ensures none { (o p : ℕ) → sv39_at result.levels.table.items o p ≡ None }

@@ -61,9 +61,8 @@ fn append(places: &mut [u16], from: u16, block: FrameBlock)
     ensures { Appended places.old places.new from block.block.first (2 ^ block.block.order) }
 {
     let first = block.first().0;
-    let to = from + block.count();
-    for (i, place) in places[from as usize..to as usize].iter_mut().enumerate() {
-        *place = first + i as u16;
+    for i in 0..block.count() {
+        places[(from + i) as usize] = first + i;
     }
 }
 

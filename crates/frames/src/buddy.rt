@@ -71,6 +71,10 @@ impl Buddy {
     pub fn free_block(&self, frame: FrameNumber) -> Option<FrameBlock>
         ensures { elim result [ Some b ↦ Tile (bit self.now.free) frame.0 b.block.first b.block.order | None ↦ bit self.now.free frame.0 ≡ false ] }
     {
+        // The marks have a place for every frame below 2,048: those past the source's own need not be looked for.
+        if frame.0 >= self.frames.get() {
+            return None;
+        }
         Some(self.marks.around(frame)?.into())
     }
 }

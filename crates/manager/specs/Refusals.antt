@@ -1,5 +1,6 @@
-use Rattle.std.specs.Prelude.{ℕ}
+use Rattle.std.specs.Prelude.{◌≡◌, ℕ}
 use Rattle.blocks.specs.Blocks.{bad_block_number}
+use Rattle.blocks.specs.declared.number.ObjectPage.{ObjectPage}
 use Rattle.frames.specs.Refusals.{give_number}
 use Rattle.mapping.specs.Leaves.{put_error_number, no_leaf_number}
 use Rattle.manager.specs.declared.refusal.Refusal.{Refusal}
@@ -22,3 +23,8 @@ number_of Block = bad_block_number
 number_of (Give e) = give_number e
 number_of (Put e) = put_error_number e
 number_of Clear = no_leaf_number
+
+-- what is told of no frame has the page that asked for one
+abbrev pub NoFrameFor : ObjectPage → Refusal → Type 0
+NoFrameFor page (NoFrame at depth) = at ≡ page
+NoFrameFor page refusal = Unit {0}

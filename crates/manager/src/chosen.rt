@@ -1,6 +1,7 @@
-ghost use Rattle.std.specs.Prelude.{◌≡◌, ℕ, ◌+◌, ◌<◌, ◌≤◌};
+ghost use Rattle.std.specs.Prelude.{◌≡◌, ℕ, ◌+◌, ◌<◌, ◌≤◌, IfErr};
+ghost use Rattle.manager.specs.Refusals.{NoFrameFor};
 
-use crate::refusal::{Placed, Refusal};
+use crate::refusal::{Refusal, placed_at};
 use crate::state::Manager;
 use blocks::block::ObjectBlock;
 use blocks::number::{FrameNumber, ObjectPage};
@@ -66,12 +67,13 @@ impl<S: FrameSource + Drop, H: MappingHardware + Drop> Manager<S, H> {
     }
 
     // One frame for one page; while the source has none, the oldest reservation is broken.
-    fn base_frame(&mut self, page: ObjectPage) -> Result<FrameNumber, Refusal> {
+    fn base_frame(&mut self, page: ObjectPage) -> Result<FrameNumber, Refusal>
+        ensures { IfErr result (NoFrameFor page) }
+    {
         loop {
             let taken = self.source.take(0);
             if taken.is_ok() || self.reserved.is_empty() {
-                let block = taken.map_err(|cause| Placed { place: page, cause })?;
-                return Ok(block.first());
+                return Ok(placed_at(taken, page)?.first());
             }
             self.break_oldest()?;
         }

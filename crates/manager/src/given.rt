@@ -1,4 +1,6 @@
-ghost use Rattle.std.specs.Prelude.{◌≡◌, ℕ, ◌+◌, ◌<◌, ◌≤◌, OnOk, length};
+ghost use Rattle.std.specs.Prelude.{◌≡◌, ℕ, ◌+◌, ◌<◌, ◌≤◌, IfErr, OnOk, length};
+ghost use Rattle.blocks.specs.declared.number.ObjectPage.{ObjectPage};
+ghost use Rattle.manager.specs.Refusals.{NoFrameFor};
 
 use crate::refusal::Refusal;
 use crate::state::Manager;
@@ -28,7 +30,8 @@ fn give_unused<S: FrameSource>(
 impl<S: FrameSource + Drop, H: MappingHardware + Drop> Manager<S, H> {
     // Breaks the oldest reservation: its present pages stay where they are, and its empty frames go back.
     pub(crate) fn break_oldest(&mut self) -> Result<(), Refusal>
-        ensures { OnOk result (length self.new.reserved + 1 ≤ length self.old.reserved) }
+        ensures fewer { OnOk result (length self.new.reserved + 1 ≤ length self.old.reserved) }
+        ensures others { IfErr result (λ r. (page : ObjectPage) → NoFrameFor page r) }
     {
         let oldest = self.reserved.oldest().ok_or(Refusal::Block)?;
         give_unused(&mut self.source, &oldest, oldest.frames()?)?;

@@ -66,6 +66,13 @@ pub struct Placed<P, E> {
     pub cause: E,
 }
 
+// The same result, its error placed.
+pub fn placed_at<T, P: Copy, E: Drop>(res: Result<T, E>, place: P) -> Result<T, Placed<P, E>>
+    ensures { elim res [ Ok value ↦ result ≡ Ok value | Err cause ↦ result ≡ Err (record { place = place; cause = cause }) ] }
+{
+    res.map_err(|cause| Placed { place, cause })
+}
+
 impl From<Placed<ObjectPage, TakeError>> for Refusal {
     ghost from_gives = { λ e r. elim e.cause [ BadOrder ↦ r ≡ Block | NoBlock depth ↦ r ≡ NoFrame e.place depth ] };
 

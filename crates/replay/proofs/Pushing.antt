@@ -1,5 +1,5 @@
-use Rattle.std.proofs.Common.{◌≡◌, ℕ, ◌+◌, ◌-◌, ◌<◌, ◌≤◌, List, [], ◌++◌, length, get_or, take, drop, sym, refl, ap, ◌∙◌, append_assoc, arith, length-append, length-drop}
-use Rattle.std.proofs.lemmas.List.{drop-drop, take_more, flat_map_more, take-append-drop}
+use Rattle.std.proofs.Common.{◌≡◌, ℕ, ◌+◌, ◌-◌, ◌<◌, ◌≤◌, List, [], ◌++◌, length, get_or, take, drop, sym, refl, ap, subst, ◌∙◌, append_assoc, arith, length-append, length-drop}
+use Rattle.std.proofs.lemmas.List.{drop-drop, take_all, take_more, flat_map_more, take-append-drop}
 use Rattle.std.proofs.lemmas.Slice.{take-put_mid, drop-put_mid}
 use lib.Seq.{length-take-le}
 use Rattle.std.specs.Borrow.{MutBor}
@@ -44,6 +44,19 @@ pushes_part a b new part end k g w e p h =
         text = take-put_mid end k a.now new (end + length new) refl (omega arith);
         rest = drop-put_mid end k a.now new (end + length new) (omega arith) (omega arith) (omega arith);
       };
+    }
+
+-- where the bytes that fit are pushed, all are, if all fit
+pub pushes_fitting : {a b : MutBor (List ℕ)} {new : List ℕ} {end : ℕ} (count : ℕ) → count ≤ length new →
+    Pushes a end (take count new) b (end + length (take count new)) → (end + length new ≤ length a.now → length new ≤ count) → Pushes a end new b (end + count)
+pushes_fitting {a = a} {b = b} {new = new} {end = end} count h p all =
+    let long = length-take-le count new h in
+    record {
+      same_reference = p.same_reference;
+      same_length = p.same_length;
+      adds = λ fits.
+          let whole = take_all count new (all fits) in
+          rw (← long) (subst (λ t. Adds a.now end t b.now (end + length (take count new))) whole (p.adds (omega (arith, long, fits))));
     }
 
 -- bytes written from the line's end on, with all past them as before, are pushed

@@ -68,10 +68,9 @@ impl<'a> Line<'a> {
     pub fn push_bytes(&mut self, bytes: &[u8])
         ensures { Pushes self.old.buffer self.old.len bytes.now self.new.buffer self.new.len }
     {
-        if bytes.len() <= self.buffer.len() - self.len {
-            self.buffer[self.len..self.len + bytes.len()].copy_from_slice(bytes);
-            self.len += bytes.len();
-        }
+        let count = bytes.len().min(self.buffer.len() - self.len);
+        self.buffer[self.len..self.len + count].copy_from_slice(&bytes[..count]);
+        self.len += count;
     }
 
     pub fn push_byte(&mut self, byte: u8)
@@ -84,7 +83,8 @@ impl<'a> Line<'a> {
     }
 
     // A number in decimal, without leading zeros. Most numbers of a listing have a digit or two, so they are written in
-    // place: with a buffer of their own and its copy, a replay of a benchmark trace took 16 % more instructions.
+    // place: with a buffer of their own and its copy, a replay of a benchmark trace took 16 % more instructions. Where the
+    // buffer is too short the last digits are what would reach past it.
     pub fn push_number(&mut self, number: u32)
         ensures { Pushes self.old.buffer self.old.len (decimal number) self.new.buffer self.new.len }
     {
@@ -92,10 +92,11 @@ impl<'a> Line<'a> {
             return self.push_byte(b'0' + number as u8);
         }
         let width = number.ilog10() as usize + 1;
-        if width <= self.buffer.len() - self.len {
-            self.len += width;
-            itoa::write_digits(u64::from(number), self.buffer, self.len);
+        if width > self.buffer.len() - self.len {
+            return self.push_number(number / 10);
         }
+        self.len += width;
+        itoa::write_digits(u64::from(number), self.buffer, self.len);
     }
 
     // A space and a number.

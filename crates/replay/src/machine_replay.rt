@@ -4,11 +4,11 @@ ghost use Rattle.replay.specs.Faults.{FaultAt};
 use crate::fault::{BadRecord, Fault, ShortBuffer};
 use crate::line::{check_buffer, write_flush, write_line, write_title};
 use crate::lines::Lines;
-use crate::reader::read_at;
-use crate::record::CallRecord;
+use crate::reader::read_record;
+use crate::record::{CallRecord, Record};
 use blocks::number::{FrameNumber, ObjectPage};
 use frames::source::FrameSource;
-use manager::refusal::{Placed, Refusal};
+use manager::refusal::{Refusal, placed_at};
 use manager::state::Manager;
 use mapping::hardware::MappingHardware;
 
@@ -133,8 +133,7 @@ impl<'a, S: FrameSource + Drop, H: MappingHardware + Drop> MachineReplay<'a, S, 
     fn serve(&mut self, asked: CallRecord, place: usize) -> Result<Told, Fault>
         ensures { IfErr result (FaultAt place) }
     {
-        let told = self.call(asked).map_err(|cause| Placed { place, cause })?;
-        Ok(told)
+        Ok(placed_at(self.call(asked), place)?)
     }
 
     // Serves a call and writes its line.
@@ -184,10 +183,13 @@ impl<'a, S: FrameSource + Drop, H: MappingHardware + Drop> MachineReplay<'a, S, 
     fn record_line(&mut self, place: usize, buffer: &mut [u8]) -> usize
         ensures { result ≤ length buffer.old }
     {
-        match read_at::<CallRecord>(self.trace, place) {
+        match read_record(self.trace, place) {
             Ok(read) => {
                 self.stage = Stage::Records { place: read.next };
-                self.call_line(read.record, place, buffer)
+                match read.record {
+                    Record::Call(asked) => self.call_line(asked, place, buffer),
+                    Record::Machine(_) => write_line(buffer, b'M', &[0]),
+                }
             }
             Err(bad) => {
                 self.stage = Stage::Counts;

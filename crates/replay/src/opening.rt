@@ -5,8 +5,8 @@ use crate::fault::{BadRecord, BadTrace, ShortBuffer};
 use crate::line::{check_buffer, write_line, write_title};
 use crate::lines::Lines;
 use crate::machine_replay::{MachineReplay, bad_record_line};
-use crate::reader::{FIRST_PLACE, Parsed, check_trace, read_at};
-use crate::record::{Board, MachineRecord};
+use crate::reader::{FIRST_PLACE, Parsed, check_trace, read_record};
+use crate::record::{Board, MachineRecord, Record};
 use frames::buddy::Buddy;
 use frames::quota::Quota;
 use frames::refusal::BadSource;
@@ -123,7 +123,11 @@ fn read_machine(trace: &[u8]) -> Result<Parsed<MachineRecord>, Cause> {
     if trace.len() <= FIRST_PLACE {
         return Err(Cause::NoRecord);
     }
-    Ok(read_at(trace, FIRST_PLACE)?)
+    let Parsed { record, next } = read_record(trace, FIRST_PLACE)?;
+    match record {
+        Record::Machine(record) => Ok(Parsed { record, next }),
+        Record::Call(_) => Err(BadRecord { place: FIRST_PLACE })?,
+    }
 }
 
 // The frames of a machine: a quota over a buddy source.
@@ -168,17 +172,21 @@ fn open_on<'a>(
     heap: Global,
     first: Parsed<MachineRecord>,
     source: Quota<Buddy>,
-) -> Result<Option<Opened<'a>>, AllocError> {
+) -> Result<Opened<'a>, AllocError> {
     match first.record.board {
         Board::Alpha => {
             let hardware = Alpha::make(blank_table(heap)?);
-            let replay = start(trace, heap, first.next, source, hardware)?;
-            Ok(replay.map(|replay| Opened::Alpha(replay)))
+            match start(trace, heap, first.next, source, hardware)? {
+                Some(replay) => Ok(Opened::Alpha(replay)),
+                None => Ok(Opened::Without(Machineless::new(Cause::NoRecord))),
+            }
         }
         Board::Sv39 => {
             let hardware = Sv39::make(blank_table(heap)?);
-            let replay = start(trace, heap, first.next, source, hardware)?;
-            Ok(replay.map(|replay| Opened::Sv39(replay)))
+            match start(trace, heap, first.next, source, hardware)? {
+                Some(replay) => Ok(Opened::Sv39(replay)),
+                None => Ok(Opened::Without(Machineless::new(Cause::NoRecord))),
+            }
         }
     }
 }
@@ -186,10 +194,7 @@ fn open_on<'a>(
 // Opens a trace: makes the machine that its first record asks for.
 pub fn open_trace<'a>(trace: &'a [u8], heap: Global) -> Result<Opened<'a>, AllocError> {
     match read_source(trace) {
-        Ok((first, source)) => {
-            let opened = open_on(trace, heap, first, source)?;
-            Ok(opened.unwrap_or(Opened::Without(Machineless::new(Cause::NoRecord))))
-        }
+        Ok((first, source)) => open_on(trace, heap, first, source),
         Err(cause) => Ok(Opened::Without(Machineless::new(cause))),
     }
 }
